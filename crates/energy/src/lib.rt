@@ -1,0 +1,13 @@
+// Sums of energies by tables of whole numbers: the scaled powers F, the steps of the thresholds H and G, the background
+// correction c and the reverberation steps k. Each function is proved equal to its rule for every argument in range; a
+// table is seen by the one function that reads it.
+mod corrections;
+mod energies;
+mod means;
+mod steps;
+
+pub use corrections::background;
+pub use corrections::reverberation;
+pub use energies::energy;
+pub use means::mean_of_three;
+pub use steps::level;

@@ -1,0 +1,6 @@
+-- Laws of the general definitions.
+pub mod Ints
+pub mod Floor
+pub mod Extremes
+pub mod Sums
+pub mod Table

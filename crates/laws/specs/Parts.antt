@@ -1,0 +1,14 @@
+-- An integer by two naturals: z is P z less N z, and one of the two is 0.
+-- The prover's arithmetic reads naturals only; through P and N it reads integers.
+use Prim.Native.Nat.{ℕ, suc}
+use lib.IntN.{ℤ, pos, negsuc}
+
+-- what z is above 0: the greater of z and 0, as a natural
+abbrev pub P : ℤ → ℕ
+P (pos n) = n
+P (negsuc n) = 0
+
+-- what z is below 0
+abbrev pub N : ℤ → ℕ
+N (pos n) = 0
+N (negsuc n) = suc n

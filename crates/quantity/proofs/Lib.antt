@@ -1,0 +1,2 @@
+-- Laws of the quantities.
+pub mod Rim

@@ -1,0 +1,52 @@
+// The refusals: one case for each number of the paper.
+ghost use mathlib.Core.Path.{_≡_};
+ghost use Rattle.quantity.specs.Refusals.{numberOf};
+
+pub enum Refusal {
+    // 1: the number of bands is not the kind's
+    BandCount,
+    // 2: a float is NaN or infinite
+    NotFinite,
+    // 3: a reading is missing
+    NoReading,
+    // 4: a band value is out of range
+    BandRange,
+    // 5: laboratory rule, total less than 6.0 dB above the background
+    Background,
+    // 6: a derived value is out of range
+    DerivedRange,
+    // 7: the reverberation time is out of range
+    TimeRange,
+    // 8: the target is not better than the rating
+    NotBetter,
+    // 9: the target is outside -100..200
+    TargetRange,
+    // 10: the lent output is too small, or the offset beyond its end
+    NoRoom,
+    // 11: the line is not a request
+    NotRequest,
+    // 12: the specimens are not 48 values
+    SpecimenCount,
+}
+
+impl Refusal {
+    // The number that the paper gives this refusal.
+    pub fn number(self) -> u32
+        ensures { λ r. ⌜ r ≡ numberOf self ⌝ }
+    {
+        match self {
+            Refusal::BandCount => 1,
+            Refusal::NotFinite => 2,
+            Refusal::NoReading => 3,
+            Refusal::BandRange => 4,
+            Refusal::Background => 5,
+            Refusal::DerivedRange => 6,
+            Refusal::TimeRange => 7,
+            Refusal::NotBetter => 8,
+            Refusal::TargetRange => 9,
+            Refusal::NoRoom => 10,
+            Refusal::NotRequest => 11,
+            Refusal::SpecimenCount => 12,
+        }
+    }
+}
