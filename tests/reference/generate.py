@@ -8,6 +8,7 @@ Each part is a folder of `crates` with a file `stdin` and a file `stdout`. With
 """
 
 import argparse
+import os
 import sys
 from itertools import zip_longest
 from pathlib import Path
@@ -94,7 +95,8 @@ def main():
     good = True
     for part in chosen.parts:
         for name, data in zip(("stdin", "stdout"), PARTS[part](chosen.operations)):
-            good = handle(chosen.into / part / name, data) and good
+            path = Path(os.path.relpath(chosen.into / part / name))
+            good = handle(path, data) and good
     return 0 if good else 1
 
 

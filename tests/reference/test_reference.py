@@ -11,7 +11,7 @@ import sys
 import traceback
 from decimal import Decimal, getcontext
 from fractions import Fraction
-from itertools import combinations, product
+from itertools import accumulate, combinations, product
 
 sys.dont_write_bytecode = True
 
@@ -112,12 +112,22 @@ def test_reference_values_of_iso_717():
         same(kind.reference, tuple(level - at_500_hertz for level in curve), kind.name)
 
 
-def test_spectra_are_levels_of_one_whole():
-    """The table gives spectra of total level 0 dB: their energies sum to about 1."""
+def test_spectra_step_by_step():
+    """The table of 000, 3.1.3, typed again as its lowest level and the steps up the bands."""
+    steps = {
+        "C": (-29, 3, 3, 2, 2, 2, 2, 2, 1, 1, 1, 1, 0, 0, 0, 0),
+        "Ctr": (-20, 0, 2, 2, 1, 1, 1, 1, 1, 2, 1, -1, -1, -1, -2, -2),
+    }
+    same(energies.SPECTRUM_C[16], tuple(accumulate(steps["C"])))
+    same(energies.SPECTRUM_CTR[16], tuple(accumulate(steps["Ctr"])))
+
+
+def test_octave_spectra_are_sums_of_thirds():
     for spectra in (energies.SPECTRUM_C, energies.SPECTRUM_CTR):
-        for spectrum in spectra.values():
-            total = sum(Decimal(10) ** (Decimal(L) / 10) for L in spectrum)
-            assert Decimal("0.89") < total < Decimal("1.13"), total
+        for octave, octave_level in enumerate(spectra[5]):
+            thirds = spectra[16][3 * octave:3 * octave + 3]
+            energy = sum(Decimal(10) ** (Decimal(L) / 10) for L in thirds)
+            same(octave_level, int((10 * energy.log10()).quantize(Decimal(1))), thirds)
 
 
 def test_intake_examples():
@@ -741,9 +751,10 @@ def test_requests_both_ways():
 def test_lines_that_are_no_requests():
     good = b"A1\tK2\t24.0\t33.0\t40.0\t43.0\t44.0\n"
     differ(answer_line(good), NO_REQUEST)
-    for line in (b"", b"\n", good[:-1], good[:-1] + b"\r\n", good + good, b"\n" + good, good + b"\n",
-                 good[:-1] + b"\t\n", b"\t" + good, good.lower(), good.replace(b"\t", b" "),
-                 good.replace(b"\t", b"\t\t", 1), b"A1\tK2\n", b"A1\tK2\t\n", b"A1\n", b"A2" + good[2:],
+    for line in (b"", b"\n", good[:-1], good[:-1] + b"\r\n", good + good, b"\n" + good,
+                 good + b"\n", good[:-1] + b"\t\n", b"\t" + good, good.lower(),
+                 good.replace(b"\t", b" "), good.replace(b"\t", b"\t\t", 1),
+                 b"A1\tK2\n", b"A1\tK2\t\n", b"A1\n", b"A2" + good[2:],
                  good.replace(b"24.0", b"-0.0"), good.replace(b"24.0", b"L-0.0"),
                  good.replace(b"24.0", b"024.0"), good.replace(b"24.0", b"24"),
                  good.replace(b"24.0", b"24.00"), good.replace(b"K2", b"K\n2"),

@@ -1,7 +1,12 @@
 -- Laws of the energies.
 pub mod Tables
 pub mod Powers
+pub mod Weights
 pub mod Scaled
 pub mod Thresholds
 pub mod Threes
 pub mod Amounts
+pub mod Between
+pub mod Times
+pub mod Bounds
+pub mod Pencil

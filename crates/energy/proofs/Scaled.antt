@@ -1,12 +1,11 @@
 -- F is the greatest by its rule; the table's test gives F at each entry; F is at most 10 ^ 9. Assumes nothing.
-use mathlib.Core.Path.{_≡_, refl, sym, _∙_, subst}
+use mathlib.Core.Path.{_≡_, sym, subst}
 use mathlib.Core.Bool.{Bool, not}
-use Prim.Native.Nat.{ℕ, zero, suc, _+_, _*_, _^_, _≤_, _<_}
+use Prim.Native.Nat.{ℕ, suc, _*_, _^_, _≤_, _<_}
 use native.Mathlib.Nat.{pow-le-pow-left, mul-le-mul-right, le-trans, lt-of-lt-of-le, not-le-of-lt, zero-mul, one-mul, mul-one}
-use native.Mathlib.Omega.{arith}
-use lib.Dec.{T, leb, leb→le, le→leb, lit<, lit≤, T-not}
-use lib.ListN.{length, getD}
-use Rattle.laws.specs.Extremes.{Greatest, greatest, settle}
+use lib.Dec.{T, leb→le, le→leb, lit<, lit≤, T-not}
+use lib.ListN.{getD}
+use Rattle.laws.specs.Extremes.{Greatest, greatest}
 use Rattle.laws.proofs.Extremes.{Down, found, found-is}
 use Rattle.laws.proofs.Table.{both, both-left, both-right, every, at}
 use Rattle.energy.specs.Energies.{F, energyRule}
@@ -34,8 +33,9 @@ unfolding F energyRule
 F-greatest d =
     let g : Greatest (λ n. T (energyRule d n)) (greatest 30 (energyRule d)) = found 30 (energyRule d) (down d) (none d) (top d) in
     record {
-        holds = leb→le (greatest 30 (energyRule d) ^ 100 * 10 ^ d) (10 ^ 900) (g .holds);
-        best = λ m h. g .best m (le→leb (m ^ 100 * 10 ^ d) (10 ^ 900) h) }
+      holds = leb→le (greatest 30 (energyRule d) ^ 100 * 10 ^ d) (10 ^ 900) (g .holds);
+      best = λ m h. g .best m (le→leb (m ^ 100 * 10 ^ d) (10 ^ 900) h);
+    }
   where
     none : (d : ℕ) → T (energyRule d 0)
     none d = le→leb (0 ^ 100 * 10 ^ d) (10 ^ 900) (subst (λ (x : ℕ). x ≤ 10 ^ 900) (sym (zero-mul (10 ^ d))) (lit≤ tt))
@@ -45,7 +45,7 @@ unfolding energyRule
 F-above d h = is-F d 0
     (le→leb (0 ^ 100 * 10 ^ d) (10 ^ 900) (subst (λ (x : ℕ). x ≤ 10 ^ 900) (sym (zero-mul (10 ^ d))) (lit≤ tt)))
     (λ t. not-le-of-lt (lt-of-lt-of-le (lit< {m = 10 ^ 900} {n = 10 ^ 901} tt) (ten-up h))
-        (subst (λ (x : ℕ). x ≤ 10 ^ 900) (one-mul (10 ^ d)) (leb→le (1 ^ 100 * 10 ^ d) (10 ^ 900) t)))
+    (subst (λ (x : ℕ). x ≤ 10 ^ 900) (one-mul (10 ^ d)) (leb→le (1 ^ 100 * 10 ^ d) (10 ^ 900) t)))
 
 -- the rule at an entry: it passes and the next number does not
 right : ℕ → ℕ → Bool
@@ -61,7 +61,7 @@ entry-is d h =
     let x : ℕ = getD energies d 0 in
     let t : T (right d x) = at right energies checked d h in
     is-F d x (both-left (energyRule d x) (not (energyRule d (suc x))) t)
-        (T-not (energyRule d (suc x)) (both-right (energyRule d x) (not (energyRule d (suc x))) t))
+    (T-not (energyRule d (suc x)) (both-right (energyRule d x) (not (energyRule d (suc x))) t))
 
 pub F-first : F 0 ≡ 1000000000
 unfolding energies

@@ -1,39 +1,30 @@
 -- The mean of three: the table's search gives v; v is the number of j that count, of all j; a sum of three lies between one
--- energy and three; the mean lies between the least and the greatest. Assumes nothing.
+-- energy and three. Assumes nothing.
 use mathlib.Core.Path.{_≡_, refl, sym, _∙_, ap, subst}
-use mathlib.Core.Bool.{Bool, not}
+use mathlib.Core.Bool.{Bool}
 use mathlib.Core.Logic.{_⊎_, inl, inr, ⊎-elim}
-use Prim.Native.Nat.{ℕ, zero, suc, _+_, _*_, _-_, _^_, _≤_, _<_, min, max}
-use native.Mathlib.Nat.{pow-le-pow-left, mul-le-mul-left, mul-le-mul-right, mul-le-mul, le-trans, lt-of-lt-of-le, lt-of-le-of-lt, not-le-of-lt, le-refl, mul-one}
+use Prim.Native.Nat.{ℕ, zero, suc, _+_, _*_, _-_, _^_, _≤_, _<_}
+use native.Mathlib.Nat.{le-trans, lt-of-lt-of-le, not-le-of-lt}
 use native.Mathlib.Decide.{decLt, decLe}
 use native.Mathlib.Omega.{arith}
 use lib.Dec.{T, leb, ltb, leb→le, le→leb, ltb→lt, lit<, lit≤}
-use lib.ListN.{length, getD}
-use Rattle.laws.specs.Extremes.{Greatest, Number, greatest}
-use Rattle.laws.proofs.Extremes.{Down, found, found-is, number-of}
+use lib.ListN.{getD}
+use Rattle.laws.specs.Extremes.{Greatest, Number}
+use Rattle.laws.proofs.Extremes.{Down, found, found-is}
 use Rattle.laws.proofs.Table.{both, both-left, both-right, every, at}
 use Rattle.energy.specs.Energies.{F}
-use Rattle.energy.specs.Means.{v, meanRule, MeanRule, least₃, sum₃, mean₃}
+use Rattle.energy.specs.Means.{v, meanRule, MeanRule, least₃, sum₃}
 use Rattle.energy.specs.Steps.{Reached}
-use Rattle.energy.proofs.Powers.{ten-up, ten-pos, grow, pass-down}
-use Rattle.energy.proofs.Scaled.{F-first, F-most, entry-is}
-use Rattle.energy.proofs.Tables.{energies, means}
+use Rattle.energy.proofs.Weights.{weight, up-sum, down-place, number-within}
+use Rattle.energy.proofs.Scaled.{F-first, F-most}
+use Rattle.energy.proofs.Tables.{means}
 
-abbrev whole : ℕ
+abbrev pub whole : ℕ
 whole = 3 ^ 200 * 10 ^ 1800
-
-abbrev weight : ℕ → ℕ → ℕ
-weight S j = S ^ 200 * 10 ^ (2 * j - 1)
-
-up-sum : (S R j : ℕ) → S ≤ R → weight S j ≤ weight R j
-up-sum S R j h = mul-le-mul-right (10 ^ (2 * j - 1)) (pow-le-pow-left h 200)
-
-up-place : (S m n : ℕ) → m ≤ n → weight S m ≤ weight S n
-up-place S m n h = mul-le-mul-left (S ^ 200) (ten-up (omega arith))
 
 down-v : (S : ℕ) → Down (meanRule S)
 unfolding meanRule
-down-v S m n h t = pass-down (weight S m) (weight S n) whole (up-place S m n h) t
+down-v S = down-place whole S
 
 top-v : (S : ℕ) → 1000000000 ≤ S → T (meanRule S (2 ^ 6)) → ⊥
 unfolding meanRule
@@ -74,6 +65,7 @@ step-is S r a b reach = found-is 6 (meanRule S) (down-v S) (top-v S a) (48 - r) 
     holds (yes h) = le→leb (weight S (48 - r)) whole
         (le-trans (up-sum S (getD means r 0) (48 - r) (omega (arith, reach .above h))) (counts r h))
     holds (no h) = let e : 0 ≡ 48 - r = omega arith in subst (λ (n : ℕ). T (meanRule S n)) e (base-v S b)
+
     ends : (k : ℕ) → r ≡ k → T (meanRule S (suc (48 - r))) → ⊥
     ends zero e t = let p : suc (48 - r) ≡ 49 = omega arith in
         not-le-of-lt (lt-of-lt-of-le (lit< {m = whole} {n = weight 1000000000 49} tt) (up-sum 1000000000 S 49 a))
@@ -91,16 +83,7 @@ v-greatest S a b = found 6 (meanRule S) (down-v S) (base-v S b) (top-v S a)
 pub v-number : (G : ℕ → ℕ) → ((j : ℕ) → Greatest (MeanRule j) (G j)) → (S : ℕ) → 1000000000 ≤ S → S ≤ 3000000000
     → Number (λ j. leb S (G j)) (v S)
 unfolding MeanRule meanRule
-v-number G is-G S a b = number-of (λ j. leb S (G j)) down (record { holds = to (v S) (g .holds); best = λ m t. g .best m (from m t) })
-  where
-    g : Greatest (λ j. T (meanRule S j)) (v S)
-    g = v-greatest S a b
-    to : (j : ℕ) → T (meanRule S j) → T (leb S (G j))
-    to j t = le→leb S (G j) (is-G j .best S (leb→le (weight S j) whole t))
-    from : (j : ℕ) → T (leb S (G j)) → T (meanRule S j)
-    from j t = le→leb (weight S j) whole (le-trans (up-sum S (G j) j (leb→le S (G j) t)) (is-G j .holds))
-    down : Down (λ j. leb S (G j))
-    down m n h t = to m (down-v S m n h (from n t))
+v-number G is-G S a b = number-within whole G is-G S (v-greatest S a b)
 
 -- nothing past 48 counts
 pub v-most : (S : ℕ) → 1000000000 ≤ S → S ≤ 3000000000 → v S ≤ 48
@@ -130,11 +113,12 @@ sum-bounds x y z =
     let m : ℕ = least₃ x y z in
     let a : F (x - m) ≤ 1000000000 = F-most (x - m) in
     let b : F (y - m) ≤ 1000000000 = F-most (y - m) in
-    let c : F (z - m) ≤ 1000000000 = F-most (z - m) in
-    (⊎-elim (λ e. omega (arith, F-at-zero (x - m) e))
-        (λ w. ⊎-elim (λ e. omega (arith, F-at-zero (y - m) e)) (λ e. omega (arith, F-at-zero (z - m) e)) w)
-        (one-is-least x y z),
-    omega arith)
+    let c : F (z - m) ≤ 1000000000 = F-most (z - m) in (
+      ⊎-elim (λ e. omega (arith, F-at-zero (x - m) e))
+          (λ w. ⊎-elim (λ e. omega (arith, F-at-zero (y - m) e)) (λ e. omega (arith, F-at-zero (z - m) e)) w)
+          (one-is-least x y z),
+      omega arith,
+    )
 
 -- what the code adds up: m is the least, e f g the energies above it
 pub mean-sum : (x y z m e f g : ℕ) → m ≡ least₃ x y z → e ≡ F (x - m) → f ≡ F (y - m) → g ≡ F (z - m) → e + f + g ≡ sum₃ x y z

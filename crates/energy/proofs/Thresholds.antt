@@ -1,20 +1,20 @@
 -- A table of thresholds: entry i is the least number whose size meets need (i + 1). Where a number reaches r entries, it meets
 -- need r and not need (r + 1): no order of the table is used. Here for the sums of sixteen bands. Assumes nothing.
-use mathlib.Core.Path.{_≡_, refl, sym, _∙_, subst}
+use mathlib.Core.Path.{_≡_, refl, sym, subst}
 use mathlib.Core.Bool.{Bool}
 use mathlib.Core.List.{List}
 use Prim.Native.Nat.{ℕ, zero, suc, _+_, _*_, _-_, _^_, _≤_, _<_}
-use native.Mathlib.Nat.{pow-le-pow-left, le-trans, lt-of-lt-of-le, lt-of-le-of-lt, not-le-of-lt, le-refl}
+use native.Mathlib.Nat.{pow-le-pow-left, le-trans, lt-of-le-of-lt, not-le-of-lt}
 use native.Mathlib.Decide.{decLt}
 use native.Mathlib.Omega.{arith}
 use lib.Dec.{T, leb, ltb, leb→le, le→leb, ltb→lt, lit<, lit≤}
 use lib.ListN.{length, getD}
-use Rattle.laws.specs.Extremes.{Greatest, Least, Number, greatest}
-use Rattle.laws.proofs.Extremes.{Down, found, found-is, number-of, least-reads}
+use Rattle.laws.specs.Extremes.{Greatest, Least, Number}
+use Rattle.laws.proofs.Extremes.{Down, found, found-is, number-of}
 use Rattle.laws.proofs.Table.{both, both-left, both-right, every, at}
 use Rattle.energy.specs.Energies.{u, levelRule, AtLeast}
 use Rattle.energy.specs.Steps.{Reached}
-use Rattle.energy.proofs.Powers.{ten-up, pass-down, pass-up}
+use Rattle.energy.proofs.Powers.{ten-up, pass-down}
 use Rattle.energy.proofs.Tables.{levels}
 
 abbrev pub threshold : (ℕ → ℕ) → (ℕ → ℕ) → ℕ → ℕ → Bool
@@ -100,11 +100,15 @@ u-number H is-H S a b = number-of (λ j. leb (H j) S) down (record { holds = to 
   where
     g : Greatest (λ j. T (levelRule S j)) (u S)
     g = u-greatest S a b
+
     up : (j m n : ℕ) → m ≤ n → need-u j ≤ size-u m → need-u j ≤ size-u n
     up j m n h k = le-trans k (up-u m n h)
+
     to : (j : ℕ) → T (levelRule S j) → T (leb (H j) S)
     to j t = le→leb (H j) S (is-H j .best S (leb→le (need-u j) (size-u S) t))
+
     from : (j : ℕ) → T (leb (H j) S) → T (levelRule S j)
     from j t = le→leb (need-u j) (size-u S) (up j (H j) S (leb→le (H j) S t) (is-H j .holds))
+
     down : Down (λ j. leb (H j) S)
     down m n h t = to m (down-u S m n h (from n t))

@@ -22,8 +22,9 @@ least-unique {m = m} {n = n} a b = le-antisymm (a .best n (b .holds)) (b .best m
 -- n passes and n + 1 does not: n is the greatest
 pub edge : (ok : ℕ → Bool) → Down ok → (n : ℕ) → T (ok n) → (T (ok (suc n)) → ⊥) → Greatest (λ m. T (ok m)) n
 edge ok down n t f = record {
-    holds = t;
-    best = λ m h. go m h (decLe m n) }
+  holds = t;
+  best = λ m h. go m h (decLe m n);
+}
   where
     go : (m : ℕ) → T (ok m) → Dec (m ≤ n) → m ≤ n
     go m h (yes p) = p
@@ -43,6 +44,7 @@ settled ok (suc k) n t f = go (λ m. settled ok k m) (ok (n + 2 ^ k)) refl
   where
     double : (n k : ℕ) → n + 2 ^ k + 2 ^ k ≡ n + 2 ^ suc k
     double n k = omega arith
+
     go : ((m : ℕ) → T (ok m) → (T (ok (m + 2 ^ k)) → ⊥) → Passed ok (settle ok k m))
         → (b : Bool) → ok (n + 2 ^ k) ≡ b → Passed ok (settle ok k (cond b (n + 2 ^ k) n))
     go next true e = next (n + 2 ^ k) (subst T (sym e) tt) (λ h. f (subst (λ (m : ℕ). T (ok m)) (double n k) h))
@@ -59,6 +61,20 @@ found bits ok down t f = edge ok down (settle ok bits 0) (p .0) (p .1)
       where
         none : (m : ℕ) → 0 + m ≡ m
         none m = omega arith
+
+-- the answer has no more bits than were tried
+settle-below : (ok : ℕ → Bool) (k n : ℕ) → settle ok k n < n + 2 ^ k
+unfolding settle
+settle-below ok zero n = omega arith
+settle-below ok (suc k) n = go (λ m. settle-below ok k m) (ok (n + 2 ^ k))
+  where
+    go : ((m : ℕ) → settle ok k m < m + 2 ^ k) → (b : Bool) → settle ok k (cond b (n + 2 ^ k) n) < n + 2 ^ suc k
+    go next true = omega (arith, next (n + 2 ^ k))
+    go next false = omega (arith, next n)
+
+pub greatest-below : (bits : ℕ) (ok : ℕ → Bool) → greatest bits ok < 2 ^ bits
+unfolding greatest
+greatest-below bits ok = omega (arith, settle-below ok bits 0)
 
 -- whoever passes with its successor failing is the search's answer
 pub found-is : (bits : ℕ) (ok : ℕ → Bool) → Down ok → (T (ok (2 ^ bits)) → ⊥)
@@ -89,11 +105,12 @@ count-rest ok n (suc k) h =
 -- where smaller ones pass too, the greatest that passes is the number of j >= 1 that pass
 pub number-of : (ok : ℕ → Bool) → Down ok → {n : ℕ} → Greatest (λ m. T (ok m)) n → Number ok n
 number-of ok down {n} g = record {
-    enough = n;
-    count = λ b h.
-        subst (λ (m : ℕ). countTo ok m ≡ n) (split n b h)
-        (count-rest ok n (b - n) (λ j p t. not-le-of-lt p (g .best j t))
-        ∙ count-all ok n (λ j p q. down j n q (g .holds))) }
+  enough = n;
+  count = λ b h.
+      subst (λ (m : ℕ). countTo ok m ≡ n) (split n b h)
+      (count-rest ok n (b - n) (λ j p t. not-le-of-lt p (g .best j t))
+      ∙ count-all ok n (λ j p q. down j n q (g .holds)));
+}
   where
     split : (n b : ℕ) → n ≤ b → n + (b - n) ≡ b
     split n b h = omega arith

@@ -28,6 +28,7 @@ sub-parts a b = cond-case (ltb a b) (negsuc (b - suc a)) (pos (a - b)) (λ z. P 
   where
     below : (a b : ℕ) → a < b → 0 + b ≡ suc (b - suc a) + a
     below a b h = omega arith
+
     above : (a b : ℕ) → b ≤ a → (a - b) + b ≡ 0 + a
     above a b h = omega arith
 

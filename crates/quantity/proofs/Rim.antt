@@ -34,9 +34,10 @@ natural z e h =
     let s : SFits w32 z = fits-made (omega arith) (omega arith) in
     let back : toZ w32 (ofZ w32 z) ≡ z = toZ-ofZ s in
     record {
-        small = s;
-        cast = rw back (nonneg z e, record { fits = omega (arith, nat-of z e) });
-        value = rw back (nat-of z e) }
+      small = s;
+      cast = rw back (nonneg z e, record { fits = omega (arith, nat-of z e) });
+      value = rw back (nat-of z e);
+    }
 
 pub sum-natural : (z : ℤ) (f : ℕ) → N z ≤ f → P z + f < 2147483648 → Natural (z +ℤ pos f)
 sum-natural z f h k = natural (z +ℤ pos f) (omega (arith, plus z (pos f), apart (z +ℤ pos f))) (omega (arith, plus z (pos f), apart (z +ℤ pos f)))

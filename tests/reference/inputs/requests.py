@@ -79,8 +79,8 @@ def refused_line(seeded):
     texts = [level_text(value) for value in any_values(seeded, kind)]
     for _ in range(seeded.between(0, 3)):
         texts[seeded.below(len(texts))] = seeded.pick((
-            b"-", b"-", b"-", b"150.1", b"-20.1", b"999.9", b"-999.9", b"L150.1", b"L-20.1", b"150.0",
-            b"-20.0", b"L-0.1", b"-0.1"))
+            b"-", b"-", b"-", b"150.1", b"-20.1", b"999.9", b"-999.9", b"L150.1", b"L-20.1",
+            b"150.0", b"-20.0", b"L-0.1", b"-0.1"))
     count = seeded.pick(9 * (kind.bands,) + (kind.bands - 1, kind.bands + 1, 21 - kind.bands,
                                              1, 2, 48, seeded.between(1, 60)))
     texts = (texts * 60)[:count]
@@ -129,10 +129,10 @@ KIND_TEXTS = (b"A3", b"A1", b"I3", b"I1", b"a3", b"a1", b"i3", b"i1", b"A", b"3"
               b"A33", b"AA3", b" A3", b"A3 ", b"I", b"L3", b"A\xb3", b"A\x003", b"?", b"3A",
               b"I11", b"A3A1", b"-", b"A-3", b"A0", b"\xef\xbb\xbfA3")
 
-KEYS = (b"", b"k", b"-", b"--", b"9", b"Z" * 31, b"Z" * 32, b"Z" * 33, b"a" * 64, b"-" * 32, b"-" * 33,
-        b"a b", b" a", b"a ", b"a_b", b"a.b", b"a/b", b"a:b", b"a@b", b"a[b", b"a`b", b"a{b", b"\x00",
-        b"a\x00", b"\x7f", b"\x80", b"\xff", b"\xc3\xa4", b"a\r", b"?", b"a,b", b"A3", b"0", b"K-1",
-        b"+", b"a/", b"a*", b"\xe2\x80\x93")
+KEYS = (b"", b"k", b"-", b"--", b"9", b"Z" * 31, b"Z" * 32, b"Z" * 33, b"a" * 64, b"-" * 32,
+        b"-" * 33, b"a b", b" a", b"a ", b"a_b", b"a.b", b"a/b", b"a:b", b"a@b", b"a[b", b"a`b",
+        b"a{b", b"\x00", b"a\x00", b"\x7f", b"\x80", b"\xff", b"\xc3\xa4", b"a\r", b"?", b"a,b",
+        b"A3", b"0", b"K-1", b"+", b"a/", b"a*", b"\xe2\x80\x93")
 
 
 def edge_lines(seeded):
@@ -233,7 +233,8 @@ def ending_lines(seeded):
     lines += [line[:-1] + end + b"\n" for line in good[:4]
               for end in (b"\x00", b"\x0b", b"\x0c", b"\x1a", b"\x85", b"\xe2\x80\xa8", b" ", b"#")]
     lines += [b"\xef\xbb\xbf" + good[0], b"\xff\xfe" + good[1], b"\x00" + good[2]]
-    lines += [b"#comment\n", b"?\t?\t11\n", b"A3\tK\t0\t50\t0\t0\t5\t=\n", b"quit\n", b"A3\n", b"A3\tK\n"]
+    lines += [b"#comment\n", b"?\t?\t11\n", b"A3\tK\t0\t50\t0\t0\t5\t=\n", b"quit\n", b"A3\n",
+              b"A3\tK\n"]
     lines += [bytes([byte]) + b"\n" for byte in range(256) if byte != 10]
     lines += [line.lower() for line in good[:5]]
     return lines

@@ -39,10 +39,12 @@ loop-less c = omega arith
 loop-again : tie.Need-loop-again Inv-loop μ-loop
 loop-again c =
     let b = c .before .before .before in
-    let mid : ℕ = b .loop .low + (b .loop .high - b .loop .low) / 2 in
-    (omega arith, omega arith,
-    λ i e. let p : mid ≡ i = omega arith in subst (λ (j : ℕ). getD (b .before .args .table .now) j 0 ≤ b .before .args .s) p (c .if1 .taken),
-    b .loop .inv .3)
+    let mid : ℕ = b .loop .low + (b .loop .high - b .loop .low) / 2 in (
+      omega arith,
+      omega arith,
+      λ i e. let p : mid ≡ i = omega arith in subst (λ (j : ℕ). getD (b .before .args .table .now) j 0 ≤ b .before .args .s) p (c .if1 .taken),
+      b .loop .inv .3,
+    )
 
 loop-less-2 : tie.Need-loop-less-2 Inv-loop μ-loop
 loop-less-2 c = omega arith
@@ -57,9 +59,10 @@ returns c =
     let b = c .before in
     let e : b .loop .high ≡ b .loop .low = omega arith in
     record {
-        within = omega arith;
-        below = b .loop .inv .2;
-        above = subst (λ (n : ℕ). n < length (b .before .args .table .now) → b .before .args .s < getD (b .before .args .table .now) n 0) e (b .loop .inv .3) }
+      within = omega arith;
+      below = b .loop .inv .2;
+      above = subst (λ (n : ℕ). n < length (b .before .args .table .now) → b .before .args .s < getD (b .before .args .table .now) n 0) e (b .loop .inv .3);
+    }
 
 pub reached-spec : {M : Type 1} → statement M
 reached-spec =

@@ -1,0 +1,47 @@
+-- What the shifts of the rounding are: powers of two that stay small, so that nothing wraps. Assumes nothing.
+use mathlib.Core.Path.{_≡_, refl, sym, _∙_, ap}
+use mathlib.Core.Bool.{Bool, true, false}
+use Prim.Native.Nat.{ℕ, zero, suc, _+_, _*_, _-_, _/_, _%_, _^_, _≤_, _<_}
+use native.Mathlib.Nat.{mul-le-mul-right, mul-le-mul-left, le-trans, one-mul, mul-comm}
+use native.Mathlib.Omega.{arith}
+use lib.IntN.{ℤ, pos, negℤ, _-ℤ_}
+use lib.Pow.{pow-add, pow-pos, pow-mono, shl-exact}
+use Rattle.laws.proofs.Ints.{ints, minus, opposite, apart}
+use Rattle.intake.specs.Nearest.{sizeOf, nearestTo, signedBy}
+use Rattle.intake.proofs.Nearest.{sized, size-small}
+
+pub product : (scale digits : ℕ) → scale ≤ 100 → digits < 16777216 → scale * digits ≤ 1677721600
+product scale digits h g = omega (arith, mul-le-mul-right digits h)
+
+pub one-shifted : (p : ℕ) → p ≤ 48 → 1 * 2 ^ p % 18446744073709551616 ≡ 2 ^ p
+one-shifted p h = shl-exact {a = 1} 1 p 64 (omega arith) (omega arith) ∙ one-mul (2 ^ p)
+
+pub power : (p : ℕ) → 16 ≤ p → p ≤ 31 → (65536 ≤ 2 ^ p) × (2 ^ p ≤ 2147483648)
+power p h g = (pow-mono {i = 16} {j = p} h, pow-mono {i = p} {j = 31} g)
+
+twice-power : (p : ℕ) → 2 ^ (p + 1) ≡ 2 * 2 ^ p
+twice-power p = pow-add 2 p 1 ∙ mul-comm (2 ^ p) 2
+
+pub shifted-plus : (n p : ℕ) → p ≤ 31 → (2 * n + 1 * 2 ^ p % 18446744073709551616) / 2 ^ (p + 1) ≡ sizeOf false n (2 ^ p)
+unfolding sizeOf
+shifted-plus n p h = rw (one-shifted p (omega arith), twice-power p)
+
+pub shifted-minus : (n p : ℕ) → p ≤ 31 → (2 * n + 1 * 2 ^ p % 18446744073709551616 - 1) / 2 ^ (p + 1) ≡ sizeOf true n (2 ^ p)
+unfolding sizeOf
+shifted-minus n p h = rw (one-shifted p (omega arith), twice-power p)
+
+-- the size fits, and with its sign it is the nearest number
+pub size-fits : (s : Bool) (scale digits p : ℕ) → scale ≤ 100 → digits < 16777216 → 16 ≤ p → p ≤ 31
+    → sizeOf s (scale * digits) (2 ^ p) < 2147483648
+size-fits s scale digits p h g k l =
+    size-small s (scale * digits) (2 ^ p) (power p k l .0) (power p k l .1) (product scale digits h g)
+
+pub plus-sign : (r : ℤ) (m n p : ℕ) → r ≡ pos m -ℤ pos 0 → m ≡ sizeOf false n (2 ^ p) → r ≡ nearestTo false n (2 ^ p)
+plus-sign r m n p e f = e ∙ omega (ints, minus (pos m) (pos 0)) ∙ ap pos f ∙ sized false n (2 ^ p) (pow-pos p)
+
+pub minus-sign : (r : ℤ) (m n p : ℕ) → r ≡ pos 0 -ℤ pos m → m ≡ sizeOf true n (2 ^ p) → r ≡ nearestTo true n (2 ^ p)
+minus-sign r m n p e f =
+    e
+    ∙ omega (ints, minus (pos 0) (pos m), opposite (pos m))
+    ∙ ap (λ (x : ℕ). negℤ (pos x)) f
+    ∙ sized true n (2 ^ p) (pow-pos p)

@@ -1,0 +1,5 @@
+-- Float intake, in the order of document 01: the nearest unit, one reading, a reverberation time, lists of readings.
+pub mod Nearest
+pub mod Taken
+pub mod Times
+pub mod Lists

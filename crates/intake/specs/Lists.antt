@@ -1,0 +1,100 @@
+-- Document 01, "Refusal numbers": "bands from the lowest, each 3, 2, 4"; and the set that a list of readings becomes.
+use mathlib.Core.Bool.{Bool, true, false, cond}
+use mathlib.Core.List.{List, [], _∷_}
+use Prim.Native.Nat.{ℕ, zero, suc, _+_, _*_, _^_}
+use lib.Dec.{ltb, eqb}
+use lib.IntN.{pos}
+use lib.Ieee.{nan}
+use lib.ListN.{getD, take, replicate}
+use Rattle.quantity.specs.declared.quantities.Tenths.{Tenths}
+use Rattle.quantity.specs.declared.quantities.BandSet.{BandSet}
+use Rattle.quantity.specs.declared.quantities.Reading.{Reading}
+use Rattle.quantity.specs.declared.quantities.Reading.the-variants.{Level}
+use Rattle.quantity.specs.declared.refusals.Refusal.{Refusal}
+use Rattle.quantity.specs.declared.refusals.Refusal.the-variants.{BandCount}
+use Rattle.intake.specs.declared.singles.Taken.{Taken}
+use Rattle.intake.specs.declared.singles.Taken.the-variants as one
+use Rattle.intake.specs.declared.lists.Outcome.{Outcome}
+use Rattle.intake.specs.declared.lists.Outcome.the-variants.{Accepted, Refused}
+use Rattle.intake.specs.declared.lists.Readings.{Readings}
+use Rattle.intake.specs.declared.lists.Intake.{Intake}
+use Rattle.intake.specs.Taken.{takenOf}
+
+-- what becomes of reading i, counted from 0
+abbrev pub takenAt : List Reading → ℕ → Taken
+takenAt readings i = takenOf (getD readings i (Level nan))
+
+abbrev pub nought : Tenths
+nought = record { 0 = pos 0 }
+
+-- the value and the mark of a reading that was taken
+abbrev pub valueOf : Taken → Tenths
+valueOf (one.Value t limit) = t
+valueOf (one.Refused r) = nought
+
+abbrev pub limitOf : Taken → Bool
+limitOf (one.Value t limit) = limit
+limitOf (one.Refused r) = false
+
+-- the outcome with one more reading: a refusal that stands is kept
+abbrev pub after : Outcome → Taken → Outcome
+after Accepted (one.Value t limit) = Accepted
+after Accepted (one.Refused r) = Refused r
+after (Refused r) t = Refused r
+
+-- the first refusal among the first n readings, from the lowest
+unfoldable pub refusalIn : List Reading → ℕ → Outcome
+refusalIn readings zero = Accepted
+refusalIn readings (suc n) = after (refusalIn readings n) (takenAt readings n)
+
+-- what a limit value adds to the marks at place i: bit i
+abbrev pub weightOf : Bool → ℕ → ℕ
+weightOf true i = 2 ^ i
+weightOf false i = 0
+
+-- the marks of the first n readings
+unfoldable pub marksIn : List Reading → ℕ → ℕ
+marksIn readings zero = 0
+marksIn readings (suc n) = marksIn readings n + weightOf (limitOf (takenAt readings n)) n
+
+-- f i, f (i + 1), .., k of them
+unfoldable pub listed : (ℕ → Tenths) → ℕ → ℕ → List Tenths
+listed f zero i = []
+listed f (suc k) i = f i ∷ listed f k (suc i)
+
+-- the values of the first n readings, then zeros: k values in all
+abbrev pub valueIn : List Reading → ℕ → ℕ → Tenths
+valueIn readings n i = cond (ltb i n) (valueOf (takenAt readings i)) nought
+
+unfoldable pub valuesIn : List Reading → ℕ → ℕ → List Tenths
+unfolding listed
+valuesIn readings n k = listed (valueIn readings n) k 0
+
+-- "A refusal returns only its number": nothing else is told
+abbrev pub refusedAll : Refusal → Readings
+refusedAll r = record { outcome = Refused r; values = replicate 48 nought; marks = 0 }
+
+abbrev pub refusedList : Refusal → Intake
+refusedList r = record { outcome = Refused r; set = record { values = replicate 16 nought; marks = 0; len = 0 } }
+
+-- the first n readings
+abbrev pub allBy : Outcome → List Reading → ℕ → Readings
+allBy Accepted readings n = record { outcome = Accepted; values = valuesIn readings n 48; marks = marksIn readings n }
+allBy (Refused r) readings n = refusedAll r
+
+unfoldable pub allOf : List Reading → ℕ → Readings
+allOf readings n = allBy (refusalIn readings n) readings n
+
+-- a band list for a kind of `bands` bands: "1: number of bands is not the kind's", then the bands from the lowest
+abbrev pub listBy : Outcome → List Reading → ℕ → Intake
+listBy Accepted readings n = record {
+    outcome = Accepted;
+    set = record { values = valuesIn readings n 16; marks = marksIn readings n; len = n } }
+listBy (Refused r) readings n = refusedList r
+
+unfoldable pub listOf : List Reading → ℕ → ℕ → Intake
+listOf readings len bands = cond (eqb len bands) (listBy (refusalIn readings bands) readings bands) (refusedList BandCount)
+
+-- the lowest sixteen values
+abbrev pub headOf : List Tenths → List Tenths
+headOf values = take 16 values

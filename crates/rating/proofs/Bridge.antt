@@ -1,0 +1,130 @@
+-- From the naturals of the code to the definitions over ℤ, for both signs at once: position p is p - 24 dB for airborne and
+-- 168 - p dB for impact, a level is a value counted from its entry, and so each deficit is 10 p less the level.
+-- Assumes nothing.
+use mathlib.Core.Path.{_≡_, refl, sym, _∙_, ap, ap₂, subst}
+use mathlib.Core.Bool.{Bool, true, false, cond}
+use mathlib.Core.List.{List, [], _∷_}
+use Prim.Native.Nat.{ℕ, zero, suc, _+_, _*_, _-_, _/_, _%_, _≤_, _<_}
+use native.Mathlib.Nat.{div-add-mod', mod-lt, add-zero, add-suc, suc-add, not-suc-le-zero}
+use native.Mathlib.Decide.{decLe, decLt}
+use native.Mathlib.Omega.{arith}
+use lib.Dec.{T, leb, ltb, leb→le, le→leb}
+use borrow.Author.Tests.{le-leb, lt-leb}
+use lib.IntN.{ℤ, pos, negsuc, negℤ, _+ℤ_, _-ℤ_, _*ℤ_}
+use lib.ListN.{length, getD}
+use lib.Signed.{shrZ, _≤ℤ_}
+use Rattle.laws.specs.Parts.{P, N}
+use Rattle.laws.specs.Sums.{sumTo, sumℤ}
+use Rattle.laws.proofs.Ints.{ints, plus, minus, opposite, apart, times-P, times-N, le-made, eq-made}
+use Rattle.laws.proofs.Floor.{IsFloor, floor-unique}
+use Rattle.laws.proofs.Sums.{sum-same, sum-mono, sum-plus, sum-const, sumℤ-parts}
+use Rattle.rating.specs.Curve.{deficitBy, startBy, shiftedBy, stricterBy, floorOf, ceilingOf, firstFrom}
+use Rattle.rating.specs.Levels.{entryBy, levelBy, listed, totalAt, Settled, startAt, bottom, Entries}
+use Rattle.rating.proofs.Counted.{Counted, PartsOf, level-parts}
+
+-- position p in decibels
+abbrev pub positionBy : Bool → ℕ → ℤ
+positionBy true p = pos p -ℤ pos 24
+positionBy false p = pos 168 -ℤ pos p
+
+-- what an entry is, by the parts of its reference value
+abbrev pub EntryOf : Bool → ℤ → ℕ → Type 0
+EntryOf true K e = e + 10 * P K ≡ 240 + 10 * N K
+EntryOf false K e = e + 10 * N K ≡ 1680 + 10 * P K
+
+pub entry-parts : (sign : Bool) (K : ℤ) → bottom sign ≤ entryBy sign K → EntryOf sign K (entryBy sign K)
+entry-parts true K h = omega (arith, minus (pos 240) (pos 10 *ℤ K), times-P 10 K, times-N 10 K, apart (pos 240 -ℤ pos 10 *ℤ K))
+entry-parts false K h = omega (arith, plus (pos 1680) (pos 10 *ℤ K), times-P 10 K, times-N 10 K, apart (pos 1680 +ℤ pos 10 *ℤ K))
+
+-- the deficit at position p is 10 p less the level
+pub deficit-level : (sign : Bool) (K x : ℤ) (p entry level : ℕ) → EntryOf sign K entry → PartsOf sign x entry level
+    → deficitBy sign (positionBy sign p) K x ≡ 10 * p - level
+deficit-level true K x p entry level e l =
+    let X : ℤ = pos p -ℤ pos 24 in
+    let a : ℤ = pos 10 *ℤ X in
+    let b : ℤ = pos 10 *ℤ K in
+    omega (arith, minus (pos p) (pos 24), times-P 10 X, times-N 10 X, times-P 10 K, times-N 10 K, plus a b, minus (a +ℤ b) x, apart (a +ℤ b -ℤ x))
+deficit-level false K x p entry level e l =
+    let Y : ℤ = pos 168 -ℤ pos p in
+    let a : ℤ = pos 10 *ℤ Y in
+    let b : ℤ = pos 10 *ℤ K in
+    omega (arith, minus (pos 168) (pos p), times-P 10 Y, times-N 10 Y, times-P 10 K, times-N 10 K, minus x b, minus (x -ℤ b) a, apart (x -ℤ b -ℤ a))
+
+-- an entry of a list by index
+listed-at : (f : ℕ → ℕ) (n j i : ℕ) → i < n → getD (listed f n j) i 0 ≡ f (j + i)
+unfolding listed
+listed-at f zero j i h = absurd (not-suc-le-zero h)
+listed-at f (suc n) j zero h = ap f (sym (add-zero j))
+listed-at f (suc n) j (suc i) h = listed-at f n (suc j) i (omega arith) ∙ ap f (suc-add j i ∙ sym (add-suc j i))
+
+pub listed-is : (f : ℕ → ℕ) (n i : ℕ) → i < n → getD (listed f n 0) i 0 ≡ f i
+listed-is f n i h = listed-at f n 0 i h ∙ ap f (none i)
+  where
+    none : (i : ℕ) → 0 + i ≡ i
+    none i = omega arith
+
+-- ---- the start: E is the sum of the entries, add what the kind adds, m ten for each band
+abbrev pub Tuned : Bool → ℕ → ℕ → ℕ → Type 0
+Tuned true E add m = add + E + 1 ≡ 30 * m
+Tuned false E add m = add + E + 1 ≡ 174 * m
+
+abbrev pub SumOf : Bool → ℤ → ℕ → ℕ → Type 0
+SumOf true x E level = level + N x ≡ E + P x
+SumOf false x E level = level + P x ≡ E + N x
+
+pub start-is : (sign : Bool) (sum : ℤ) (E add m level : ℕ) → 0 < m → Tuned sign E add m → SumOf sign sum E level
+    → startBy sign sum m ≡ positionBy sign ((level + add) / m)
+start-is true sum E add m level h t l =
+    let p : ℕ = (level + add) / m in
+    let q : ℤ = pos 29 -ℤ pos p in
+    let w : m * (P q + p) ≡ m * (N q + 29) = ap (λ (k : ℕ). m * k) (omega (arith, minus (pos 29) (pos p))) in
+    let d : p * m + (level + add) % m ≡ level + add = div-add-mod' (level + add) m in
+    let r : (level + add) % m < m = mod-lt (level + add) h in
+    let f : q ≡ shrZ (negℤ sum) m = floor-unique m h (negℤ sum) q (record { low = omega (arith, opposite sum); high = omega (arith, opposite sum) }) in
+    ap (λ (z : ℤ). negℤ z +ℤ pos 5) (sym f) ∙ eq-made (omega (arith, plus (negℤ q) (pos 5), opposite q, minus (pos 29) (pos p), minus (pos p) (pos 24)))
+start-is false sum E add m level h t l =
+    let p : ℕ = (level + add) / m in
+    let q : ℤ = pos 173 -ℤ pos p in
+    let w : m * (P q + p) ≡ m * (N q + 173) = ap (λ (k : ℕ). m * k) (omega (arith, minus (pos 173) (pos p))) in
+    let d : p * m + (level + add) % m ≡ level + add = div-add-mod' (level + add) m in
+    let r : (level + add) % m < m = mod-lt (level + add) h in
+    let f : q ≡ shrZ sum m = floor-unique m h sum q (record { low = omega arith; high = omega arith }) in
+    ap (λ (z : ℤ). z -ℤ pos 5) (sym f) ∙ eq-made (omega (arith, minus q (pos 5), minus (pos 173) (pos p), minus (pos 168) (pos p)))
+
+-- ---- shifts
+pub shifted-is : (sign : Bool) (p s : ℕ) → s ≤ p → shiftedBy sign (positionBy sign p) s ≡ positionBy sign (p - s)
+shifted-is true p s h = eq-made (omega (arith, minus (pos p -ℤ pos 24) (pos s), minus (pos p) (pos 24), minus (pos (p - s)) (pos 24)))
+shifted-is false p s h = eq-made (omega (arith, plus (pos 168 -ℤ pos p) (pos s), minus (pos 168) (pos p), minus (pos 168) (pos (p - s))))
+
+first-at : (ok : ℕ → Bool) (tries s d : ℕ) → d ≤ tries → ((e : ℕ) → e < d → ok (s + e) ≡ false) → ok (s + d) ≡ true
+    → firstFrom ok tries s ≡ s + d
+unfolding firstFrom
+first-at ok zero s d h f t = omega arith
+first-at ok (suc tries) s zero h f t =
+    ap (λ (b : Bool). cond b s (firstFrom ok tries (suc s))) (ap ok (sym (add-zero s)) ∙ t) ∙ sym (add-zero s)
+first-at ok (suc tries) s (suc d) h f t =
+    ap (λ (b : Bool). cond b s (firstFrom ok tries (suc s))) (ap ok (sym (add-zero s)) ∙ f 0 (omega arith))
+    ∙ first-at ok tries (suc s) d (omega arith) (λ e q. ap ok (suc-add s e ∙ sym (add-suc s e)) ∙ f (suc e) (omega arith))
+    (ap ok (suc-add s d ∙ sym (add-suc s d)) ∙ t)
+    ∙ suc-add s d ∙ sym (add-suc s d)
+
+pub first-is : (ok : ℕ → Bool) (tries d : ℕ) → d ≤ tries → ((e : ℕ) → e < d → ok e ≡ false) → ok d ≡ true → firstFrom ok tries 0 ≡ d
+first-is ok tries d h f t =
+    first-at ok tries 0 d h (λ e q. ap ok (none e) ∙ f e q) (ap ok (none d) ∙ t) ∙ none d
+  where
+    none : (i : ℕ) → 0 + i ≡ i
+    none i = omega arith
+
+-- ---- past the start every position is over the limit
+pub over-past : (f : ℕ → ℕ) (n add p : ℕ) → 0 < n → startAt f n add < p → add < totalAt f n p
+unfolding totalAt
+over-past f n add p h k =
+    let m : ℕ = 10 * n in
+    let S : ℕ = sumTo f n in
+    let d : (S + add) / m * m + (S + add) % m ≡ S + add = div-add-mod' (S + add) m in
+    let r : (S + add) % m < m = mod-lt (S + add) (omega arith) in
+    let a : sumTo (λ i. 10 * p) n ≤ sumTo (λ i. (10 * p - f i) + f i) n = sum-mono (λ i. 10 * p) (λ i. (10 * p - f i) + f i) n (λ i q. omega arith) in
+    let b : sumTo (λ i. (10 * p - f i) + f i) n ≡ sumTo (λ i. 10 * p - f i) n + S = sum-plus (λ i. 10 * p - f i) f n in
+    let c : sumTo (λ i. 10 * p) n ≡ n * (10 * p) = sum-const (10 * p) n in
+    let w : m * suc ((S + add) / m) ≤ m * p = native.Mathlib.Nat.mul-le-mul-left m k in
+    omega arith

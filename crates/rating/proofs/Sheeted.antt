@@ -1,0 +1,158 @@
+-- The numbers that the code puts on a sheet are the defined ones: each spectrum's levels count x - 10 L, or count down from
+-- 150 dB, so each term is the defined term, and the record is the defined sheet. Assumes nothing.
+use mathlib.Core.Path.{_≡_, refl, sym, _∙_, ap, subst}
+use mathlib.Core.Bool.{Bool, true, false}
+use mathlib.Core.List.{List}
+use Prim.Native.Nat.{ℕ, _+_, _*_, _-_, _≤_, _<_}
+use native.Mathlib.Omega.{arith}
+use lib.Dec.{eqb}
+use lib.IntN.{ℤ, pos, _-ℤ_, _*ℤ_}
+use Rattle.laws.specs.Parts.{P, N}
+use Rattle.laws.proofs.Ints.{minus, apart, times-P, times-N}
+use Rattle.quantity.specs.Quantities.{halfUp, bandOf}
+use Rattle.quantity.specs.declared.quantities.BandSet.{BandSet}
+use Rattle.quantity.specs.declared.quantities.Decibels.{Decibels}
+use Rattle.rating.specs.declared.kinds.Kind.{Kind}
+use Rattle.rating.specs.declared.kinds.Numbers.{Numbers}
+use Rattle.rating.specs.declared.sheets.Sheet.{Sheet}
+use Rattle.rating.specs.declared.sheets.Term.{Term}
+use Rattle.rating.specs.declared.sheets.Term.the-variants.{Given, Absent}
+use Rattle.rating.specs.Kinds.{airborne, bandsOf, limitOf, C, Ctr}
+use Rattle.rating.specs.Bands.{accepted, limited, anyTo, bit}
+use Rattle.rating.specs.Curve.{ratingOf, shiftsOf}
+use Rattle.rating.specs.Terms.{less, airborneTerm, impactTerm}
+use Rattle.rating.specs.Sheets.{decibels, firstBy, secondBy, sheetOf}
+use Rattle.rating.specs.Levels.{at, weightBy, levelBy, levelAt, bottom, Entries, entriesOf, firstOf, secondOf, numbersOf, Sound, Sought, ratingAt, ratingBy, termOf}
+use Rattle.rating.proofs.Counted.{Counted, PartsOf, counted, level-parts}
+use Rattle.rating.proofs.Searched.{band-in, count-most, count-some}
+use Rattle.rating.proofs.Bridge.{listed-is}
+use Rattle.rating.proofs.Facts.{count-of, first-fit, second-fit, sound-of}
+use Rattle.rating.proofs.Meaning.{rating-is, shifts-is, start-below}
+use Rattle.rating.proofs.Weighing.{Up, Down, airborne-term, impact-term}
+
+-- an airborne weight, by the parts of its spectrum value
+weight-parts : (L : ℤ) → 200 ≤ weightBy true L → weightBy true L + 10 * P L ≡ 200 + 10 * N L
+weight-parts L h = omega (arith, minus (pos 200) (pos 10 *ℤ L), times-P 10 L, times-N 10 L, apart (pos 200 -ℤ pos 10 *ℤ L))
+
+counts-up : (x L : ℤ) (w g : ℕ) → w ≡ weightBy true L → 200 ≤ w → PartsOf true x w g → Up 200 (x -ℤ pos 10 *ℤ L) g
+counts-up x L w g e h l =
+    let k : w + 10 * P L ≡ 200 + 10 * N L = ap (λ (t : ℕ). t + 10 * P L) e ∙ weight-parts L (subst (λ (t : ℕ). 200 ≤ t) e h) in
+    omega (arith, minus x (pos 10 *ℤ L), times-P 10 L, times-N 10 L)
+
+module _ (k : Kind) (s : BandSet) (acc : accepted s (bandsOf k) ≡ true) where
+  abbrev n : ℕ
+  n = bandsOf k
+
+  some : 1 ≤ n
+  some = count-some (count-of k)
+
+  most : n ≤ 16
+  most = count-most (count-of k)
+
+  -- the parts of a level, by any fitting entries
+  parts-by : (sign : Bool) (ws : List ℕ) → ((i : ℕ) → i < 16 → Entries sign (at ws i)) → (i : ℕ) → i < n
+      → PartsOf sign (bandOf s i) (at ws i) (levelAt sign s ws i)
+  parts-by sign ws fits i h = level-parts sign (bandOf s i) (at ws i)
+      (counted sign (bandOf s i) (at ws i) (band-in s n acc i h) (fits i (omega (arith, most))))
+
+  module _ (p : ℕ) (r : ratingOf k (bandOf s) ≡ ratingBy (airborne k) (ratingAt k) p) where
+    -- a term by a spectrum of an airborne kind
+    airborne-by : (L : ℕ → ℤ) (ws : List ℕ) → airborne k ≡ true → ((i : ℕ) → i < 16 → at ws i ≡ weightBy (airborne k) (L i))
+        → ((i : ℕ) → i < 16 → Entries (airborne k) (at ws i))
+        → termOf true (ratingAt k) (levelAt true s ws) n p ≡ airborneTerm k (bandOf s) L
+    airborne-by L ws e is fits =
+        let fits′ = subst (λ (t : Bool). (i : ℕ) → i < 16 → Entries t (at ws i)) e fits in
+        let is′ = subst (λ (t : Bool). (i : ℕ) → i < 16 → at ws i ≡ weightBy t (L i)) e is in
+        sym (airborne-term k (bandOf s) (ratingAt k) p some L (levelAt true s ws)
+        (λ i h. counts-up (bandOf s i) (L i) (at ws i) (levelAt true s ws i) (is′ i (omega (arith, most))) (fits′ i (omega (arith, most)) .low)
+        (parts-by true ws fits′ i h))
+        (subst (λ (t : Bool). ratingOf k (bandOf s) ≡ ratingBy t (ratingAt k) p) e r))
+
+    first-at : (i : ℕ) → i < 16 → at (firstOf k) i ≡ weightBy (airborne k) (C k i)
+    unfolding firstOf
+    first-at i h = listed-is (λ j. weightBy (airborne k) (C k j)) 16 i h
+
+    second-at : (i : ℕ) → i < 16 → at (secondOf k) i ≡ weightBy (airborne k) (Ctr k i)
+    unfolding secondOf
+    second-at i h = listed-is (λ j. weightBy (airborne k) (Ctr k j)) 16 i h
+
+    first-by : (sign : Bool) → airborne k ≡ sign → halfUp (termOf sign (ratingAt k) (levelAt sign s (firstOf k)) n p) ≡ firstBy sign k (bandOf s)
+    first-by true e = ap halfUp (airborne-by (C k) (firstOf k) e first-at (first-fit k))
+    first-by false e =
+        let fits′ = subst (λ (t : Bool). (i : ℕ) → i < 16 → Entries t (at (firstOf k) i)) e (first-fit k) in
+        let is′ = subst (λ (t : Bool). (i : ℕ) → i < 16 → at (firstOf k) i ≡ weightBy t (C k i)) e first-at in
+        ap halfUp (sym (impact-term k (bandOf s) (ratingAt k) p some (levelAt false s (firstOf k))
+        (λ i h. omega (arith, parts-by false (firstOf k) fits′ i h, is′ i (omega (arith, most))))
+        (subst (λ (t : Bool). ratingOf k (bandOf s) ≡ ratingBy t (ratingAt k) p) e r)))
+
+    pub first-is : halfUp (termOf (airborne k) (ratingAt k) (levelAt (airborne k) s (firstOf k)) n p) ≡ firstBy (airborne k) k (bandOf s)
+    first-is = first-by (airborne k) refl
+
+    pub second-given : airborne k ≡ true
+        → Given (decibels (halfUp (termOf (airborne k) (ratingAt k) (levelAt (airborne k) s (secondOf k)) n p))) ≡ secondBy (airborne k) k (bandOf s)
+    second-given e =
+        ap (λ (t : Bool). Given (decibels (halfUp (termOf t (ratingAt k) (levelAt t s (secondOf k)) n p)))) e
+        ∙ ap (λ (z : ℤ). Given (decibels (halfUp z))) (airborne-by (Ctr k) (secondOf k) e second-at (second-fit k))
+        ∙ ap (λ (t : Bool). secondBy t k (bandOf s)) (sym e)
+
+    pub second-absent : airborne k ≡ false → Absent ≡ secondBy (airborne k) k (bandOf s)
+    second-absent e = ap (λ (t : Bool). secondBy t k (bandOf s)) (sym e)
+
+  -- the record is the defined sheet
+  pub sheet-is : (r : Sheet) → r .rating .0 ≡ ratingOf k (bandOf s) → r .first .0 ≡ firstBy (airborne k) k (bandOf s)
+      → r .second ≡ secondBy (airborne k) k (bandOf s) → r .shifts ≡ shiftsOf k (bandOf s) → r .limit ≡ anyTo (bit (s .marks)) n
+      → r ≡ sheetOf k s
+  unfolding sheetOf limited
+  sheet-is r a b c d e = λ i. record {
+    rating = record { 0 = a i };
+    first = record { 0 = b i };
+    second = c i;
+    shifts = d i;
+    limit = e i;
+  }
+
+-- ---- the same, from the numbers that the code has fetched
+-- what the code knows once it has them
+pub record Fetched (s : BandSet) (m : Numbers) : Type 0 where
+  pub sound : Sound m
+  pub acc : accepted s (m .bands) ≡ true
+
+pub fetched : (k : Kind) (s : BandSet) (m : Numbers) → m ≡ numbersOf k → accepted s (bandsOf k) ≡ true → Fetched s m
+unfolding numbersOf
+fetched k s m e acc = subst (Fetched s) (sym e) (record { sound = sound-of k; acc = acc })
+
+pub position-small : (k : Kind) (s : BandSet) (m : Numbers) (p shifts : ℕ) → m ≡ numbersOf k → accepted s (bandsOf k) ≡ true
+    → Sought m s p shifts → p < 500
+unfolding numbersOf
+position-small k s m p shifts e acc w =
+    let v : Sought (numbersOf k) s p shifts = subst (λ (q : Numbers). Sought q s p shifts) e w in
+    omega (arith, start-below k s acc, v .distance)
+
+-- the second term: given for airborne, absent for impact
+pub data SecondAt (m : Numbers) (s : BandSet) (p : ℕ) : Term → Type 0 where
+  given : (d : Decibels) → m .airborne ≡ true → d .0 ≡ halfUp (termOf (m .airborne) (m .origin) (levelAt (m .airborne) s (m .second)) (m .bands) p)
+      → SecondAt m s p (Given d)
+  absent : m .airborne ≡ false → SecondAt m s p Absent
+
+pub record MadeAt (s : BandSet) (p shifts : ℕ) (r : Sheet) (m : Numbers) : Type 0 where
+  pub search : Sought m s p shifts
+  pub rating : r .rating .0 ≡ ratingBy (m .airborne) (m .origin) p
+  pub first : r .first .0 ≡ halfUp (termOf (m .airborne) (m .origin) (levelAt (m .airborne) s (m .first)) (m .bands) p)
+  pub second : SecondAt m s p (r .second)
+  pub shift : r .shifts ≡ shifts
+  pub limit : r .limit ≡ anyTo (bit (s .marks)) (m .bands)
+
+second-is : (k : Kind) (s : BandSet) → accepted s (bandsOf k) ≡ true → (p : ℕ) → ratingOf k (bandOf s) ≡ ratingBy (airborne k) (ratingAt k) p
+    → (t : Term) → SecondAt (numbersOf k) s p t → t ≡ secondBy (airborne k) k (bandOf s)
+unfolding numbersOf
+second-is k s acc p r t (given d e h) = ap (λ (z : ℤ). Given (decibels z)) h ∙ second-given k s acc p r e
+second-is k s acc p r t (absent e) = second-absent k s acc p r e
+
+pub sheet-made : (k : Kind) (s : BandSet) → accepted s (bandsOf k) ≡ true → (m : Numbers) → m ≡ numbersOf k → (p shifts : ℕ) (r : Sheet)
+    → MadeAt s p shifts r m → r ≡ sheetOf k s
+unfolding numbersOf
+sheet-made k s acc m e p shifts r w =
+    let v : MadeAt s p shifts r (numbersOf k) = subst (MadeAt s p shifts r) e w in
+    let q : ratingOf k (bandOf s) ≡ ratingBy (airborne k) (ratingAt k) p = rating-is k s acc p shifts (v .search) in
+    sheet-is k s acc r (v .rating ∙ sym q) (v .first ∙ first-is k s acc p q) (second-is k s acc p q (r .second) (v .second))
+    (v .shift ∙ sym (shifts-is k s acc p shifts (v .search))) (v .limit)

@@ -1,0 +1,114 @@
+-- The terms: a least over ℤ and its mirror, a greatest, are one least over the levels; the energies above it are the same
+-- ones, and so is the term in tenths. Assumes nothing.
+use mathlib.Core.Path.{_≡_, refl, sym, _∙_, ap, ap₂, subst}
+use mathlib.Core.Bool.{Bool, true, false, cond}
+use mathlib.Core.List.{List}
+use Prim.Native.Nat.{ℕ, zero, suc, _+_, _*_, _-_, _≤_, _<_, min}
+use native.Mathlib.Nat.{le-refl}
+use native.Mathlib.Omega.{arith}
+use lib.IntN.{ℤ, pos, _+ℤ_, _-ℤ_, _*ℤ_}
+use lib.Signed.{leZ}
+use Rattle.laws.specs.Parts.{P, N}
+use Rattle.laws.specs.Extremes.{greatest}
+use Rattle.laws.specs.Sums.{sumTo}
+use Rattle.laws.proofs.Extremes.{greatest-below}
+use Rattle.laws.proofs.Ints.{ints, plus, minus, apart, times-P, times-N, eq-made, le-yes, le-no}
+use Rattle.laws.proofs.Sums.{sum-same}
+use Rattle.energy.specs.Energies.{F, u, levelRule}
+use Rattle.rating.specs.declared.kinds.Kind.{Kind}
+use Rattle.rating.specs.Kinds.{bandsOf}
+use Rattle.rating.specs.Curve.{ratingOf}
+use Rattle.rating.specs.Terms.{lesser, greater, leastTo, greatestTo, less, leastEnergies, greatestEnergies, weighted, airborneTerm, impactTerm}
+use Rattle.rating.specs.Levels.{weightBy, minTo, leastOf, energiesOf, ratingBy, termBy, termOf}
+use Rattle.rating.proofs.Walks.{min-below}
+
+pub u-small : (S : ℕ) → u S < 256
+unfolding u
+u-small S = greatest-below 8 (levelRule S)
+
+-- the level g counts a from c, or counts down from c
+abbrev pub Up : ℕ → ℤ → ℕ → Type 0
+Up c a g = g + N a ≡ c + P a
+
+abbrev pub Down : ℕ → ℤ → ℕ → Type 0
+Down c a g = g + P a ≡ c + N a
+
+lesser-up : (c : ℕ) (a b : ℤ) (g h : ℕ) → Up c a g → Up c b h → Up c (lesser a b) (min g h)
+lesser-up c a b g h p q = go (leZ a b) refl
+  where
+    go : (t : Bool) → leZ a b ≡ t → Up c (cond t a b) (min g h)
+    go true e = omega (arith, le-yes a b e)
+    go false e = omega (arith, le-no a b e)
+
+greater-down : (c : ℕ) (a b : ℤ) (g h : ℕ) → Down c a g → Down c b h → Down c (greater a b) (min g h)
+greater-down c a b g h p q = go (leZ a b) refl
+  where
+    go : (t : Bool) → leZ a b ≡ t → Down c (cond t b a) (min g h)
+    go true e = omega (arith, le-yes a b e)
+    go false e = omega (arith, le-no a b e)
+
+least-up : (c : ℕ) (a : ℕ → ℤ) (g : ℕ → ℕ) (n : ℕ) → ((i : ℕ) → i < suc n → Up c (a i) (g i)) → Up c (leastTo a n) (minTo g n)
+unfolding leastTo minTo
+least-up c a g zero h = h 0 (omega arith)
+least-up c a g (suc n) h =
+    lesser-up c (leastTo a n) (a (suc n)) (minTo g n) (g (suc n)) (least-up c a g n (λ i q. h i (omega arith))) (h (suc n) (le-refl (suc (suc n))))
+
+greatest-down : (c : ℕ) (a : ℕ → ℤ) (g : ℕ → ℕ) (n : ℕ) → ((i : ℕ) → i < suc n → Down c (a i) (g i)) → Down c (greatestTo a n) (minTo g n)
+unfolding greatestTo minTo
+greatest-down c a g zero h = h 0 (omega arith)
+greatest-down c a g (suc n) h =
+    greater-down c (greatestTo a n) (a (suc n)) (minTo g n) (g (suc n)) (greatest-down c a g n (λ i q. h i (omega arith))) (h (suc n) (le-refl (suc (suc n))))
+
+-- what lies above the least is the same number
+above-up : (c : ℕ) (a m : ℤ) (g l : ℕ) → Up c a g → Up c m l → l ≤ g → P (a -ℤ m) ≡ g - l
+above-up c a m g l p q h = omega (arith, minus a m, apart (a -ℤ m))
+
+above-down : (c : ℕ) (a m : ℤ) (g l : ℕ) → Down c a g → Down c m l → l ≤ g → P (m -ℤ a) ≡ g - l
+above-down c a m g l p q h = omega (arith, minus m a, apart (m -ℤ a))
+
+module _ (k : Kind) (x : ℕ → ℤ) (o p : ℕ) (some : 1 ≤ bandsOf k) where
+  abbrev n : ℕ
+  n = bandsOf k
+
+  -- airborne: the levels count x - 10 L from 200
+  pub airborne-term : (L : ℕ → ℤ) (g : ℕ → ℕ) → ((i : ℕ) → i < n → Up 200 (less x L i) (g i)) → ratingOf k x ≡ ratingBy true o p
+      → airborneTerm k x L ≡ termOf true o g n p
+  unfolding airborneTerm weighted leastOf energiesOf
+  airborne-term L g h r =
+      let a : ℕ → ℤ = less x L in
+      let m : ℤ = leastTo a (n - 1) in
+      let l : ℕ = minTo g (n - 1) in
+      let ml : Up 200 m l = least-up 200 a g (n - 1) (λ i q. h i (omega arith)) in
+      let S : sumTo (λ i. F (P (a i -ℤ m))) n ≡ sumTo (λ i. F (g i - l)) n =
+      sum-same (λ i. F (P (a i -ℤ m))) (λ i. F (g i - l)) n
+      (λ i q. ap F (above-up 200 (a i) m (g i) l (h i q) ml (min-below g (n - 1) i (omega arith)))) in
+      let v : ℕ = u (sumTo (λ i. F (g i - l)) n) in
+      let R : ℤ = pos p -ℤ pos o in
+      ap₂ (λ (t : ℕ) (z : ℤ). m -ℤ pos (u t) -ℤ pos 10 *ℤ z) S r
+      ∙ eq-made (omega (arith, ml, minus m (pos v), minus (pos p) (pos o), times-P 10 R, times-N 10 R, minus (m -ℤ pos v) (pos 10 *ℤ R), minus (pos (l + 10 * o)) (pos (200 + v + 10 * p))))
+
+  -- impact: the levels count down from 1500
+  pub impact-term : (g : ℕ → ℕ) → ((i : ℕ) → i < n → Down 1500 (x i) (g i)) → ratingOf k x ≡ ratingBy false o p
+      → impactTerm k x ≡ termOf false o g n p
+  unfolding impactTerm leastOf energiesOf
+  impact-term g h r =
+      let m : ℤ = greatestTo x (n - 1) in
+      let l : ℕ = minTo g (n - 1) in
+      let ml : Down 1500 m l = greatest-down 1500 x g (n - 1) (λ i q. h i (omega arith)) in
+      let S : sumTo (λ i. F (P (m -ℤ x i))) n ≡ sumTo (λ i. F (g i - l)) n =
+      sum-same (λ i. F (P (m -ℤ x i))) (λ i. F (g i - l)) n
+      (λ i q. ap F (above-down 1500 (x i) m (g i) l (h i q) ml (min-below g (n - 1) i (omega arith)))) in
+      let v : ℕ = u (sumTo (λ i. F (g i - l)) n) in
+      let R : ℤ = pos o -ℤ pos p in
+      ap₂ (λ (t : ℕ) (z : ℤ). m +ℤ pos (u t) -ℤ pos 150 -ℤ pos 10 *ℤ z) S r
+      ∙ eq-made (omega (arith, ml, plus m (pos v), minus (m +ℤ pos v) (pos 150), minus (pos o) (pos p), times-P 10 R, times-N 10 R, minus (m +ℤ pos v -ℤ pos 150) (pos 10 *ℤ R), minus (pos (1350 + v + 10 * p)) (pos (l + 10 * o))))
+
+-- a term stays within 1000 dB
+pub term-small : (sign : Bool) (o l v p : ℕ) → o < 200 → l < 5000 → v < 500 → p < 500
+    → (P (termBy sign o l v p) ≤ 10000) × (N (termBy sign o l v p) ≤ 10000)
+term-small true o l v p a b c d =
+    let z : ℤ = pos (l + 10 * o) -ℤ pos (200 + v + 10 * p) in
+    (omega (arith, minus (pos (l + 10 * o)) (pos (200 + v + 10 * p)), apart z), omega (arith, minus (pos (l + 10 * o)) (pos (200 + v + 10 * p)), apart z))
+term-small false o l v p a b c d =
+    let z : ℤ = pos (1350 + v + 10 * p) -ℤ pos (l + 10 * o) in
+    (omega (arith, minus (pos (1350 + v + 10 * p)) (pos (l + 10 * o)), apart z), omega (arith, minus (pos (1350 + v + 10 * p)) (pos (l + 10 * o)), apart z))

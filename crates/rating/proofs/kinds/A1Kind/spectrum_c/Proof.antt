@@ -1,0 +1,13 @@
+-- `rating::kinds::A1Kind::spectrum_c` meets its contract: the entries of the spectrum C are computed. Assumes nothing.
+use mathlib.Core.Path.{refl}
+use Rattle.rating.specs.Kinds.{C, spectraC}
+use Rattle.rating.specs.Levels.{firstOf, listed}
+use Rattle.rating.proofs.kinds.A1Kind.spectrum_c.Statement.{statement}
+use Rattle.rating.proofs.kinds.A1Kind.spectrum_c.Tie as tie
+
+returns : tie.Need-returns
+unfolding firstOf listed C spectraC
+returns c = refl
+
+pub spectrum-c-spec : {M : Type 1} → statement M
+spectrum-c-spec = tie.close (tie.spec returns)

@@ -1,0 +1,13 @@
+-- `rating::kinds::A3Kind::reference` meets its contract: the entries of the reference curve are computed. Assumes nothing.
+use mathlib.Core.Path.{refl}
+use Rattle.rating.specs.Kinds.{referenceOf, referencesOf}
+use Rattle.rating.specs.Levels.{entriesOf, listed}
+use Rattle.rating.proofs.kinds.A3Kind.reference.Statement.{statement}
+use Rattle.rating.proofs.kinds.A3Kind.reference.Tie as tie
+
+returns : tie.Need-returns
+unfolding entriesOf listed referenceOf referencesOf
+returns c = refl
+
+pub reference-spec : {M : Type 1} → statement M
+reference-spec = tie.close (tie.spec returns)

@@ -1,0 +1,91 @@
+-- `rating::levels::levels` meets its contract. The invariant: the levels of the bands passed. Assumes nothing.
+use mathlib.Core.Path.{_≡_, refl, sym, _∙_, ap, subst}
+use mathlib.Core.Bool.{Bool, true, false}
+use mathlib.Core.Logic.{⊎-elim}
+use Prim.Native.Nat.{ℕ, _+_, _*_, _-_, _≤_, _<_}
+use native.Mathlib.Omega.{arith}
+use borrow.Author.Needs.{needs}
+use lib.ListN.{length, getD}
+use lib.ListN.{length-set}
+use Rattle.quantity.specs.Quantities.{inRange, bandOf}
+use Rattle.rating.specs.Bands.{accepted}
+use Rattle.rating.specs.Levels.{levelBy}
+use Rattle.rating.proofs.Walks.{all-at, put-more}
+use Rattle.rating.proofs.levels.levels.Statement.{statement}
+use Rattle.rating.proofs.levels.levels.Tie as tie
+
+abbrev Inv-loop : tie.InvT-loop
+Inv-loop bands airborne set entries out₀ i₀ out i =
+    (i ≤ bands) × (length out ≡ 16) × ((j : ℕ) → j < i → getD out j 0 ≡ levelBy airborne (bandOf set j) (getD entries j 0))
+
+abbrev μ-loop : tie.MeasureT-loop
+μ-loop bands airborne set entries out₀ i₀ out i = bands - i
+
+loop-holds : tie.Need-loop-holds Inv-loop μ-loop
+loop-holds c = (omega arith, refl, λ j h. absurd (omega arith))
+
+mul-value : tie.Need-mul-value Inv-loop μ-loop
+mul-value c = omega arith
+
+element-copy-out-value : tie.Need-element-copy-out-value Inv-loop μ-loop
+element-copy-out-value c = omega arith
+
+mul-level-of : tie.Need-mul-level-of Inv-loop μ-loop
+mul-level-of c = omega arith
+
+array-read-level-of : tie.Need-array-read-level-of Inv-loop μ-loop
+array-read-level-of c = omega arith
+
+level-of-requires : tie.Need-level-of-requires Inv-loop μ-loop
+unfolding accepted
+level-of-requires c κs =
+    let b = c .before .before in (
+      all-at (λ i. inRange (bandOf (b .before .args .t1) i)) (b .before .args .bands) (b .before .pre .1 .0) (b .loop .i) (omega arith),
+      b .before .pre .1 .1 (b .loop .i) (omega arith),
+    )
+
+mul-out : tie.Need-mul-out Inv-loop μ-loop
+mul-out c = omega arith
+
+array-write-out : tie.Need-array-write-out Inv-loop μ-loop
+array-write-out c = omega arith
+
+add-i : tie.Need-add-i Inv-loop μ-loop
+add-i c = omega arith
+
+loop-less : tie.Need-loop-less Inv-loop μ-loop
+loop-less c = omega arith
+
+loop-again : tie.Need-loop-again Inv-loop μ-loop
+loop-again c =
+    let b = c .before .before .before in
+    let a = b .before .args in (
+      omega arith,
+      length-set (b .loop .out) (b .loop .i) (c .level-of .result) ∙ b .loop .inv .1,
+      put-more (b .loop .out) (b .loop .i) (c .level-of .result) (λ j. levelBy (a .airborne) (bandOf (a .t1) j) (getD (a .t4) j 0))
+          (omega arith) (b .loop .inv .2) (c .level-of .ensures),
+    )
+
+returns : tie.Need-returns Inv-loop μ-loop
+returns c =
+    let b = c .before in
+    record { whole = b .loop .inv .1; each = λ j h. b .loop .inv .2 j (omega arith) }
+
+pub levels-spec : {M : Type 1} → statement M
+levels-spec =
+    tie.close
+    (tie.spec
+    Inv-loop
+    μ-loop
+    loop-holds
+    mul-value
+    element-copy-out-value
+    mul-level-of
+    array-read-level-of
+    level-of-requires
+    mul-out
+    array-write-out
+    add-i
+    loop-less
+    loop-again
+    returns)

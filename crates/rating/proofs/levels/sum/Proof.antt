@@ -1,0 +1,67 @@
+-- `rating::levels::sum` meets its contract. The invariant: the sum of the bands passed. Assumes nothing.
+use mathlib.Core.Path.{_≡_, refl, sym, _∙_, ap}
+use mathlib.Core.Bool.{true, false}
+use mathlib.Core.Logic.{⊎-elim}
+use Prim.Native.Nat.{ℕ, _+_, _*_, _-_, _≤_, _<_}
+use native.Mathlib.Omega.{arith}
+use borrow.Author.Needs.{needs}
+use lib.ListN.{length, getD}
+use Rattle.laws.specs.Sums.{sumTo}
+use Rattle.laws.proofs.Sums.{sum-none, sum-more}
+use Rattle.rating.specs.Levels.{at}
+use Rattle.rating.proofs.Walks.{level-sum-most}
+use Rattle.rating.proofs.levels.sum.Statement.{statement}
+use Rattle.rating.proofs.levels.sum.Tie as tie
+
+abbrev Inv-loop : tie.InvT-loop
+Inv-loop bands levels sum₀ i₀ sum i = (i ≤ bands) × (sum ≡ sumTo (at levels) i)
+
+abbrev μ-loop : tie.MeasureT-loop
+μ-loop bands levels sum₀ i₀ sum i = bands - i
+
+loop-holds : tie.Need-loop-holds Inv-loop μ-loop
+loop-holds c = (omega arith, sym (sum-none (at (c .args .t1))))
+
+mul-sum : tie.Need-mul-sum Inv-loop μ-loop
+mul-sum c = omega arith
+
+array-read-sum : tie.Need-array-read-sum Inv-loop μ-loop
+array-read-sum c = omega arith
+
+add-sum : tie.Need-add-sum Inv-loop μ-loop
+add-sum c =
+    let b = c .before in
+    omega (arith, level-sum-most (at (b .before .args .t1)) (b .loop .i) (λ j q. b .before .pre .1 j (omega arith)), b .before .pre .1 (b .loop .i) (omega arith))
+
+add-i : tie.Need-add-i Inv-loop μ-loop
+add-i c = omega arith
+
+loop-less : tie.Need-loop-less Inv-loop μ-loop
+loop-less c = omega arith
+
+loop-again : tie.Need-loop-again Inv-loop μ-loop
+loop-again c =
+    let b = c .before in
+    let levels = b .before .args .t1 in
+    (omega arith, ap (λ (n : ℕ). n + at levels (b .loop .i)) (b .loop .inv .1) ∙ sym (sum-more (at levels) (b .loop .i)))
+
+returns : tie.Need-returns Inv-loop μ-loop
+returns c =
+    let b = c .before in
+    let e : b .loop .i ≡ b .before .args .bands = omega arith in
+    b .loop .inv .1 ∙ ap (sumTo (at (b .before .args .t1))) e
+
+pub sum-spec : {M : Type 1} → statement M
+sum-spec =
+    tie.close
+    (tie.spec
+    Inv-loop
+    μ-loop
+    loop-holds
+    mul-sum
+    array-read-sum
+    add-sum
+    add-i
+    loop-less
+    loop-again
+    returns)

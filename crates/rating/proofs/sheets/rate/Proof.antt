@@ -1,0 +1,69 @@
+-- `rating::sheets::rate` meets its contract: the length is tested first, then the bands. Assumes nothing.
+use borrow.Author.Needs.{needs}
+use mathlib.Core.Path.{_≡_, refl, sym, _∙_, ap, subst}
+use mathlib.Core.Bool.{Bool, true, false}
+use mathlib.Core.Logic.{⊎-elim}
+use Prim.Native.Nat.{ℕ, _+_, _*_, _-_, _≤_, _<_}
+use native.Mathlib.Omega.{arith}
+use borrow.Author.Needs.{needs}
+use lib.ListN.{length, getD}
+use mathlib.Core.Path.{ap₂}
+use lib.Dec.{eqb}
+use borrow.Author.Tests.{eq-eqb, ne-eqb, not-true, not-false}
+use Rattle.rating.specs.declared.kinds.Numbers.{Numbers}
+use Rattle.rating.specs.Kinds.{bandsOf}
+use Rattle.rating.specs.Bands.{accepted}
+use Rattle.rating.specs.Levels.{numbersOf}
+use Rattle.rating.specs.Sheets.{ratedOf, sheetOf, asked}
+use Rattle.rating.proofs.Searched.{count-most}
+use Rattle.rating.proofs.Facts.{count-of}
+use Rattle.rating.proofs.Rated.{bands-are, wrong-count, out-of-range, in-order}
+use Rattle.rating.proofs.sheets.rate.Statement.{statement}
+use Rattle.rating.proofs.sheets.rate.Tie as tie
+
+numbers-of-requires : tie.Need-numbers-of-requires
+numbers-of-requires c κs = search needs
+
+returns : tie.Need-returns
+returns c =
+    let b = c .before .before in
+    let k = b .before .args .kind in
+    wrong-count k (b .before .args .set) (b .numbers-of .result .bands) (bands-are k (b .numbers-of .result) (b .numbers-of .ensures)) (c .if1 .taken)
+
+all-in-range-requires : tie.Need-all-in-range-requires
+all-in-range-requires c κs =
+    let b = c .before .before in
+    let k = b .before .args .kind in
+    rw (bands-are k (b .numbers-of .result) (b .numbers-of .ensures)) (count-most (count-of k))
+
+returns-2 : tie.Need-returns-2
+returns-2 c =
+    let b = c .before .before .before .before in
+    let k = b .before .args .kind in
+    out-of-range k (b .before .args .set) (b .numbers-of .result .bands) (bands-are k (b .numbers-of .result) (b .numbers-of .ensures))
+    (c .before .before .if1 .left) (sym (c .before .all-in-range .ensures) ∙ not-true (c .before .all-in-range .result) (c .if2 .taken))
+
+sheet-of-requires : tie.Need-sheet-of-requires
+sheet-of-requires c κs =
+    let b = c .before .before .before .before in
+    let k = b .before .args .kind in
+    ap (accepted (b .before .args .set)) (sym (bands-are k (b .numbers-of .result) (b .numbers-of .ensures)))
+    ∙ sym (c .before .all-in-range .ensures) ∙ not-false (c .before .all-in-range .result) (c .if2 .left)
+
+returns-3 : tie.Need-returns-3
+returns-3 c =
+    let b = c .before .before .before .before .before in
+    let k = b .before .args .kind in
+    in-order k (b .before .args .set) (b .numbers-of .result .bands) (c .sheet-of .result) (bands-are k (b .numbers-of .result) (b .numbers-of .ensures))
+    (c .before .before .before .if1 .left) (sym (c .before .before .all-in-range .ensures) ∙ not-false (c .before .before .all-in-range .result) (c .before .if2 .left)) (c .sheet-of .ensures)
+
+pub rate-spec : {M : Type 1} → statement M
+rate-spec =
+    tie.close
+    (tie.spec
+    numbers-of-requires
+    returns
+    all-in-range-requires
+    returns-2
+    sheet-of-requires
+    returns-3)

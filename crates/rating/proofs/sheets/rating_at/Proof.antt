@@ -1,0 +1,29 @@
+-- `rating::sheets::rating_at` meets its contract: one difference of naturals for each sign. Assumes nothing.
+use borrow.Author.Needs.{needs}
+use mathlib.Core.Path.{_≡_, sym, _∙_, ap}
+use mathlib.Core.Bool.{Bool}
+use Prim.Native.Nat.{_<_}
+use native.Mathlib.Omega.{arith}
+use Rattle.quantity.proofs.Rim.{back}
+use Rattle.rating.specs.Levels.{ratingBy}
+use Rattle.rating.proofs.sheets.rating_at.Statement.{statement}
+use Rattle.rating.proofs.sheets.rating_at.Tie as tie
+
+less-requires : tie.Need-less-requires
+less-requires c κs = search needs
+
+less-requires-2 : tie.Need-less-requires-2
+less-requires-2 c κs = search needs
+
+returns : tie.Need-returns
+returns c =
+    let b = c .before .before in
+    back (c .less .result) (c .less .ok) ∙ c .less .ensures ∙ ap (λ (t : Bool). ratingBy t (b .args .origin) (b .args .p)) (sym (c .before .if1 .taken))
+
+returns-2 : tie.Need-returns-2
+returns-2 c =
+    let b = c .before .before in
+    back (c .less2 .result) (c .less2 .ok) ∙ c .less2 .ensures ∙ ap (λ (t : Bool). ratingBy t (b .args .origin) (b .args .p)) (sym (c .before .if1 .left))
+
+pub rating-at-spec : {M : Type 1} → statement M
+rating-at-spec = tie.close (tie.spec less-requires less-requires-2 returns returns-2)

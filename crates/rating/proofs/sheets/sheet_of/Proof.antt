@@ -1,0 +1,89 @@
+-- `rating::sheets::sheet_of` meets its contract: what was fetched is sound, and each number of the record is the defined one.
+-- Assumes nothing.
+use borrow.Author.Needs.{needs}
+use mathlib.Core.Path.{_≡_, refl, sym, _∙_, ap, subst}
+use mathlib.Core.Bool.{Bool, true, false}
+use mathlib.Core.Logic.{⊎-elim}
+use Prim.Native.Nat.{ℕ, _+_, _*_, _-_, _≤_, _<_}
+use native.Mathlib.Omega.{arith}
+use borrow.Author.Needs.{needs}
+use lib.ListN.{length, getD}
+use Rattle.rating.specs.Levels.{Count}
+use Rattle.rating.proofs.Sheeted.{Fetched, fetched, position-small, given, absent, sheet-made}
+use Rattle.rating.proofs.sheets.sheet_of.Statement.{statement}
+use Rattle.rating.proofs.sheets.sheet_of.Tie as tie
+
+numbers-of-requires : tie.Need-numbers-of-requires
+numbers-of-requires c κs = search needs
+
+-- the numbers fetched are sound, and the position found is small
+got : (c : tie.After-numbers-of) → Fetched (c .before .args .set) (c .numbers-of .result)
+got c = fetched (c .before .args .kind) (c .before .args .set) (c .numbers-of .result) (c .numbers-of .ensures) (c .before .pre)
+
+small : (c : tie.After-sought) → c .sought .result .at < 500
+small c =
+    let b = c .before in
+    position-small (b .before .args .kind) (b .before .args .set) (b .numbers-of .result) (c .sought .result .at) (c .sought .result .shifts)
+    (b .numbers-of .ensures) (b .before .pre) (c .sought .ensures)
+
+sought-requires : tie.Need-sought-requires
+sought-requires c κs =
+    let f = got c in
+    (f .sound, f .acc)
+
+rating-at-requires : tie.Need-rating-at-requires
+rating-at-requires c κs = (small c, got (c .before) .sound .near)
+
+term-of-requires : tie.Need-term-of-requires
+term-of-requires c κs =
+    let f = got (c .before .before .before) in
+    (f .sound, (f .acc, (f .sound .first, small (c .before .before))))
+
+marked-requires : tie.Need-marked-requires
+marked-requires c κs = got (c .before .before .before .before) .sound .count
+
+term-of-requires-2 : tie.Need-term-of-requires-2
+term-of-requires-2 c κs =
+    let f = got (c .before .before .before .before .before .before .before) in
+    (f .sound, (f .acc, (f .sound .second, small (c .before .before .before .before .before .before))))
+
+returns : tie.Need-returns
+returns c =
+    let b = c .before .before .before .before .before .before .before .before in
+    let w = c .before .before .before .before .before .before .before .sought in
+    sheet-made (b .before .args .kind) (b .before .args .set) (b .before .pre) (b .numbers-of .result) (b .numbers-of .ensures) (w .result .at) (w .result .shifts) _
+    (record {
+      search = w .ensures;
+      rating = c .before .before .before .before .before .before .rating-at .ensures;
+      first = c .before .before .before .before .term-of .ensures;
+      second = given (c .term-of2 .result) (c .before .before .if1 .taken) (c .term-of2 .ensures);
+      shift = refl;
+      limit = c .before .before .before .marked .ensures;
+    })
+
+returns-2 : tie.Need-returns-2
+returns-2 c =
+    let b = c .before .before .before .before .before .before in
+    let w = c .before .before .before .before .before .sought in
+    sheet-made (b .before .args .kind) (b .before .args .set) (b .before .pre) (b .numbers-of .result) (b .numbers-of .ensures) (w .result .at) (w .result .shifts) _
+    (record {
+      search = w .ensures;
+      rating = c .before .before .before .before .rating-at .ensures;
+      first = c .before .before .term-of .ensures;
+      second = absent (c .if1 .left);
+      shift = refl;
+      limit = c .before .marked .ensures;
+    })
+
+pub sheet-of-spec : {M : Type 1} → statement M
+sheet-of-spec =
+    tie.close
+    (tie.spec
+    numbers-of-requires
+    sought-requires
+    rating-at-requires
+    term-of-requires
+    marked-requires
+    term-of-requires-2
+    returns
+    returns-2)

@@ -1,0 +1,52 @@
+-- The sheet of a band set, and the rating call: a sheet, or the one refusal that is given. Document 01, "Rating", "Sums of
+-- energies" (each term rounded), and the order of refusals: 1, then 4.
+use mathlib.Core.Bool.{Bool, true, false}
+use Prim.Native.Nat.{ℕ}
+use lib.Dec.{eqb}
+use lib.IntN.{ℤ}
+use Rattle.quantity.specs.Quantities.{halfUp, bandOf}
+use Rattle.quantity.specs.declared.quantities.BandSet.{BandSet}
+use Rattle.quantity.specs.declared.quantities.Decibels.{Decibels}
+use Rattle.quantity.specs.declared.refusals.Refusal.the-variants.{BandCount, BandRange}
+use Rattle.rating.specs.declared.kinds.Kind.{Kind}
+use Rattle.rating.specs.declared.sheets.Term.{Term}
+use Rattle.rating.specs.declared.sheets.Term.the-variants.{Given, Absent}
+use Rattle.rating.specs.declared.sheets.Sheet.{Sheet}
+use Rattle.rating.specs.declared.sheets.Rated.{Rated}
+use Rattle.rating.specs.declared.sheets.Rated.the-variants.{Rating, Refused}
+use Rattle.rating.specs.Kinds.{airborne, bandsOf, C, Ctr}
+use Rattle.rating.specs.Bands.{accepted, limited}
+use Rattle.rating.specs.Curve.{ratingOf, shiftsOf}
+use Rattle.rating.specs.Terms.{airborneTerm, impactTerm}
+
+-- a single number of the sheet
+abbrev pub decibels : ℤ → Decibels
+decibels z = record { 0 = z }
+
+-- the first term: C, or the impact term; and the second: Ctr, or none. "Each term is then rounded to a whole dB"
+abbrev pub firstBy : Bool → Kind → (ℕ → ℤ) → ℤ
+firstBy true k x = halfUp (airborneTerm k x (C k))
+firstBy false k x = halfUp (impactTerm k x)
+
+abbrev pub secondBy : Bool → Kind → (ℕ → ℤ) → Term
+secondBy true k x = Given (decibels (halfUp (airborneTerm k x (Ctr k))))
+secondBy false k x = Absent
+
+unfoldable pub sheetOf : Kind → BandSet → Sheet
+sheetOf k s = record {
+  rating = decibels (ratingOf k (bandOf s));
+  first = decibels (firstBy (airborne k) k (bandOf s));
+  second = secondBy (airborne k) k (bandOf s);
+  shifts = shiftsOf k (bandOf s);
+  limit = limited s (bandsOf k);
+}
+
+-- a refusal where a test fails
+abbrev pub asked : Bool → Rated → Rated → Rated
+asked true a b = a
+asked false a b = b
+
+-- 1 where the length is not the kind's, then 4 where a band is out of range
+unfoldable pub ratedOf : Kind → BandSet → Rated
+ratedOf k s =
+    asked (eqb (s .len) (bandsOf k)) (asked (accepted s (bandsOf k)) (Rating (sheetOf k s)) (Refused BandRange)) (Refused BandCount)

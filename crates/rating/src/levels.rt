@@ -1,0 +1,149 @@
+// The shared rating over levels: sums, the search for the accepted position, and the sum of energies.
+use energy::energy;
+use energy::level;
+use quantity::BandSet;
+use quantity::Tenths;
+use quantity::signed::above;
+use quantity::signed::below;
+ghost use mathlib.Core.Path.{_≡_};
+ghost use mathlib.Core.Bool.{true};
+ghost use Prim.Native.Nat.{ℕ, _+_, _*_, _≤_, _<_};
+ghost use lib.ListN.{length, getD};
+ghost use Rattle.laws.specs.Sums.{sumTo};
+ghost use Rattle.energy.specs.Energies.{u};
+ghost use Rattle.quantity.specs.Quantities.{inRange};
+ghost use Rattle.rating.specs.Bands.{accepted};
+ghost use Rattle.rating.specs.Levels.{levelBy, Levels, at, totalAt, leastOf, energiesOf, Settled};
+ghost use Rattle.rating.specs.Levels.{Entries};
+
+// Where the search ended, and how many shifts it made.
+pub struct Position {
+    pub at: u32,
+    pub shifts: u32,
+}
+
+// Whether the first `bands` values of the set are all in range.
+pub fn all_in_range(set: BandSet, bands: usize) -> bool
+    requires { ⌜ bands ≤ 16 ⌝ }
+    ensures { λ r. ⌜ r ≡ accepted set bands ⌝ }
+{
+    let mut i = 0;
+    while i < bands {
+        let value = set.values[i];
+        if !value.in_range() {
+            return false;
+        }
+        i += 1;
+    }
+    true
+}
+
+// The level of one band.
+fn level_of(value: Tenths, airborne: bool, entry: u32) -> u32
+    requires { ⌜ inRange (value .0) ≡ true ⌝ }
+    requires { ⌜ Entries airborne entry ⌝ }
+    ensures { λ r. ⌜ r ≡ levelBy airborne (value .0) entry ⌝ }
+{
+    let x = value.0;
+    if airborne {
+        above(x, entry)
+    } else {
+        below(x, entry)
+    }
+}
+
+// The levels of the first `bands` bands.
+pub fn levels(set: BandSet, bands: usize, airborne: bool, entries: [u32; 16]) -> [u32; 16]
+    requires { ⌜ bands ≤ 16 ⌝ }
+    requires { ⌜ accepted set bands ≡ true ⌝ }
+    requires { ⌜ ((i : ℕ) → i < 16 → Entries airborne (getD entries i 0)) ⌝ }
+    ensures { λ r. ⌜ Levels airborne set entries bands r ⌝ }
+{
+    let mut out = [0u32; 16];
+    let mut i = 0;
+    while i < bands {
+        let value = set.values[i];
+        out[i] = level_of(value, airborne, entries[i]);
+        i += 1;
+    }
+    out
+}
+
+// The sum of the levels.
+pub fn sum(levels: [u32; 16], bands: usize) -> u32
+    requires { ⌜ bands ≤ 16 ⌝ }
+    requires { ⌜ ((i : ℕ) → i < bands → at levels i < 10000) ⌝ }
+    ensures { λ r. ⌜ r ≡ sumTo (at levels) bands ⌝ }
+{
+    let mut sum = 0;
+    let mut i = 0;
+    while i < bands {
+        sum += levels[i];
+        i += 1;
+    }
+    sum
+}
+
+// The total of the deficits at position p.
+pub fn total(levels: [u32; 16], bands: usize, p: u32) -> u32
+    requires { ⌜ bands ≤ 16 ⌝ }
+    requires { ⌜ p < 500 ⌝ }
+    ensures { λ r. ⌜ r ≡ totalAt (at levels) bands p ⌝ }
+{
+    let height = 10 * p;
+    let mut total = 0;
+    let mut i = 0;
+    while i < bands {
+        if levels[i] < height {
+            total += height - levels[i];
+        }
+        i += 1;
+    }
+    total
+}
+
+// From the start, position by position, to the first whose total is within the limit. At position 0 the total is 0.
+pub fn settle(levels: [u32; 16], bands: usize, limit: u32, start: u32) -> Position
+    requires { ⌜ bands ≤ 16 ⌝ }
+    requires { ⌜ start < 500 ⌝ }
+    ensures { λ r. ⌜ Settled (at levels) bands limit start (r .at) (r .shifts) ⌝ }
+{
+    let mut p = start;
+    let mut shifts = 0;
+    while limit < total(levels, bands, p) {
+        p -= 1;
+        shifts += 1;
+    }
+    Position { at: p, shifts }
+}
+
+// The least level.
+pub fn least(levels: [u32; 16], bands: usize) -> u32
+    requires { ⌜ (1 ≤ bands) × (bands ≤ 16) ⌝ }
+    ensures { λ r. ⌜ r ≡ leastOf (at levels) bands ⌝ }
+{
+    let mut least = levels[0];
+    let mut i = 1;
+    while i < bands {
+        if levels[i] < least {
+            least = levels[i];
+        }
+        i += 1;
+    }
+    least
+}
+
+// The sum of the energies of the levels, m the least of them.
+pub fn energies(levels: [u32; 16], bands: usize, m: u32) -> u64
+    requires { ⌜ bands ≤ 16 ⌝ }
+    requires { ⌜ ((i : ℕ) → i < bands → m ≤ at levels i) ⌝ }
+    ensures { λ r. ⌜ r ≡ energiesOf (at levels) bands m ⌝ }
+{
+    let mut sum = 0u64;
+    let mut i = 0;
+    while i < bands {
+        sum += energy(levels[i] - m) as u64;
+        i += 1;
+    }
+    sum
+}

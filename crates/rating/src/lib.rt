@@ -1,0 +1,15 @@
+// The rating of four kinds: airborne and impact, from thirds and from octaves.
+//
+// A kind is a type that owns its numbers; one search serves all four. The search counts its own shifts, and the sheet is
+// proved equal to the definitions in `specs/`, for every kind, every length and every value.
+mod kinds;
+mod levels;
+mod sheets;
+
+pub use kinds::Kind;
+pub use kinds::Numbers;
+pub use kinds::numbers_of;
+pub use sheets::Rated;
+pub use sheets::Sheet;
+pub use sheets::Term;
+pub use sheets::rate;
