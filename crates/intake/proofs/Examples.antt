@@ -1,7 +1,7 @@
 -- Document 01's examples of readings, and the ends of what a float can be, by their bit patterns. Each is computed.
 -- Assumes nothing.
 use mathlib.Core.Path.{_≡_, refl}
-use mathlib.Core.Bool.{Bool, true, false}
+use mathlib.Core.Bool.{true, false}
 use Prim.Native.Nat.{ℕ}
 use lib.IntN.{pos, negsuc}
 use lib.Ieee.{binary32, ofBits, ofFields, odd}
@@ -51,14 +51,15 @@ pub record Ends : Type 0 where
 pub ends : Ends
 unfolding takenOf floatTaken ofBits ofFields odd trailingZeros nearestTo inRange
 ends = record {
-    smallest = refl;
-    smallest-below = refl;
-    largest = refl;
-    infinite = refl;
-    infinite-below = refl;
-    no-number = refl;
-    missing = refl;
-    limit = refl }
+  smallest = refl;
+  smallest-below = refl;
+  largest = refl;
+  infinite = refl;
+  infinite-below = refl;
+  no-number = refl;
+  missing = refl;
+  limit = refl;
+}
 
 -- 0.125 s is a tie and goes up; the neighbours of 0.095 s fall on either side of the range's lower end; 20 s is its upper end
 pub record Seconds : Type 0 where

@@ -3,17 +3,16 @@
 use mathlib.Core.Path.{_≡_, refl, sym, _∙_, ap, subst}
 use mathlib.Core.Bool.{Bool, true, false, cond}
 use Prim.Native.Nat.{ℕ, zero, suc, _+_, _*_, _-_, _/_, _%_, _^_, _≤_, _<_}
-use native.Mathlib.Nat.{mul-comm, mul-assoc, mul-le-mul-right, mul-le-mul-left, mul-lt-mul-of-pos-right, lt-of-mul-lt-mul-right, le-of-mul-le-mul-right, le-trans, le-of-eq, lt-of-lt-of-le, lt-of-le-of-lt}
+use native.Mathlib.Nat.{mul-comm, mul-assoc, mul-le-mul-right, mul-lt-mul-of-pos-right, lt-of-mul-lt-mul-right, le-of-mul-le-mul-right, le-trans, lt-of-lt-of-le}
 use native.Mathlib.Omega.{arith}
 use borrow.Author.Tests.{lt-ltb, le-ltb, eq-eqb, ne-eqb}
-use lib.Dec.{ltb, leb, eqb}
+use lib.Dec.{leb, eqb}
 use lib.IntN.{ℤ, pos}
 use lib.Pow.{pow-add, pow-pos, pow-mono}
-use lib.Ieee.{Float, nan, inf, fin, binary32, up, down, odd, ofFields, ofBits}
+use lib.Ieee.{Float, nan, inf, fin, binary32, up, down, ofFields, ofBits}
 use lib.Ieee.Exact.{HasValue, odd-sign}
 use lib.Ieee.Fits.{down-pos}
 use Rattle.intake.specs.Nearest.{nearestTo, wholeOf}
-use Rattle.intake.specs.declared.rounding.Whole.{Whole}
 use Rattle.intake.specs.declared.rounding.Whole.the-variants.{Units, Beyond, NotFinite}
 use Rattle.intake.proofs.Nearest.{Near, same-fraction, near-unique}
 
@@ -32,8 +31,8 @@ passes-lt x d a c p q e h =
 passes-le : (x d a c : ℕ) → 0 < c → x * c ≡ a * d → 256 * c ≤ a → 256 * d ≤ x
 passes-le x d a c p e h =
     let g : 256 * d * c ≤ x * c =
-        subst (λ (y : ℕ). 256 * d * c ≤ y) (sym e)
-        (subst (λ (y : ℕ). y ≤ a * d) (across c d) (mul-le-mul-right d h)) in
+    subst (λ (y : ℕ). 256 * d * c ≤ y) (sym e)
+    (subst (λ (y : ℕ). y ≤ a * d) (across c d) (mul-le-mul-right d h)) in
     le-of-mul-le-mul-right g p
 
 pub value-in : (scale : ℕ) (v : Float) (s : Bool) (a c : ℕ) → 0 < c → HasValue v s a c → a < 256 * c

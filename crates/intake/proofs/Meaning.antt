@@ -1,36 +1,38 @@
 -- What the definitions mean, in document 01's words: the nearest unit of a float, the first refusal of a list, the bits of its
 -- marks, and that what was taken is in range. Assumes nothing.
 use mathlib.Core.Path.{_≡_, refl, sym, _∙_, ap, subst}
-use mathlib.Core.Bool.{Bool, true, false, cond}
+use mathlib.Core.Bool.{Bool, true, false, cond, _&&_}
 use mathlib.Core.List.{List}
 use Prim.Native.Nat.{ℕ, zero, suc, _+_, _*_, _-_, _/_, _%_, _^_, _≤_, _<_}
-use native.Mathlib.Nat.{mul-comm, mul-assoc, add-mul-div-right, div-eq-of-lt, one-mul, zero-mul, add-zero, lt-of-lt-of-le}
-use native.Mathlib.Decide.{decLt, ℕ-discrete}
+use native.Mathlib.Nat.{mul-add-div-right, div-eq-of-lt, lt-of-lt-of-le, add-comm, add-zero, pow-succ'}
+use native.Mathlib.Decide.{decLt}
 use native.Mathlib.Omega.{arith}
-use borrow.Author.Tests.{lt-ltb, le-leb, leb-true}
-use lib.Dec.{ltb, leb}
+use borrow.Author.Tests.{lt-ltb, leb-true, eqb-true}
+use lib.Dec.{leb, eqb}
 use lib.IntN.{ℤ, pos, negsuc}
 use lib.Ieee.{Float, nan, inf, fin, up, down}
 use lib.Ieee.Fits.{down-pos}
+use lib.ListN.{getD}
 use lib.Pow.{pow-add, pow-pos, pow-mono}
 use Rattle.laws.specs.Parts.{P}
 use Rattle.quantity.specs.Quantities.{inRange, bandOf}
 use Rattle.quantity.specs.declared.quantities.Tenths.{Tenths}
+use Rattle.quantity.specs.declared.quantities.BandSet.{BandSet}
 use Rattle.quantity.specs.declared.quantities.Hundredths.{Hundredths}
 use Rattle.quantity.specs.declared.quantities.Reading.{Reading}
 use Rattle.quantity.specs.declared.quantities.Reading.the-variants.{Level, Limit, Missing}
 use Rattle.quantity.specs.declared.refusals.Refusal.{Refusal}
-use Rattle.quantity.specs.declared.refusals.Refusal.the-variants.{BandRange, TimeRange}
+use Rattle.quantity.specs.declared.refusals.Refusal.the-variants.{BandCount, BandRange, TimeRange}
 use Rattle.intake.specs.declared.singles.Taken.{Taken}
 use Rattle.intake.specs.declared.singles.Taken.the-variants as one
-use Rattle.intake.specs.declared.singles.Time.{Time}
 use Rattle.intake.specs.declared.singles.Time.the-variants as time
 use Rattle.intake.specs.declared.lists.Outcome.{Outcome}
 use Rattle.intake.specs.declared.lists.Outcome.the-variants.{Accepted, Refused}
+use Rattle.intake.specs.declared.lists.Intake.{Intake}
 use Rattle.intake.specs.Nearest.{nearest}
-use Rattle.intake.specs.Taken.{ranged, floatTaken, takenOf}
-use Rattle.intake.specs.Times.{inTime, timed, timeOf}
-use Rattle.intake.specs.Lists.{takenAt, nought, valueOf, limitOf, after, refusalIn, weightOf, marksIn, valueIn, valuesIn}
+use Rattle.intake.specs.Taken.{floatTaken, takenOf}
+use Rattle.intake.specs.Times.{inTime, timeOf}
+use Rattle.intake.specs.Lists.{takenAt, nought, valueOf, limitOf, after, refusalIn, weightOf, marksIn, valuesIn, setOf, refusedList, listBy, listOf}
 use Rattle.intake.proofs.Nearest.{IsNearest, is-nearest, nearest-unique}
 use Rattle.intake.proofs.Runs.{marks-bound, value-at}
 
@@ -42,17 +44,21 @@ float-nearest scale s m e = is-nearest s (scale * (m * up e)) (down e) (down-pos
 pub float-only : (scale : ℕ) (s : Bool) (m : ℕ) (e t : ℤ) → IsNearest s (scale * (m * up e)) (down e) t → t ≡ nearest scale s m e
 float-only scale s m e t h = nearest-unique s (scale * (m * up e)) (down e) t (down-pos e) h
 
+-- two constructors are never equal
+clash : _≡_ {A = ℕ} 0 1 → ⊥
+clash z = omega arith
+
 -- ---- what was taken is in range
 
 by-range : (b limit : Bool) (t : ℤ) (v : Tenths) (l : Bool) → cond b (one.Value (record { 0 = t }) limit) (one.Refused BandRange) ≡ one.Value v l
     → (b ≡ true) × (t ≡ v .0)
 by-range true limit t v l e = (refl, cc)
-by-range false limit t v l e = absurd (let z : _≡_ {A = ℕ} 0 1 = cc in omega arith)
+by-range false limit t v l e = absurd (clash (cc))
 
 float-range : (limit : Bool) (x : Float) (v : Tenths) (l : Bool) → floatTaken limit x ≡ one.Value v l → inRange (v .0) ≡ true
 unfolding floatTaken
-float-range limit nan v l e = absurd (let z : _≡_ {A = ℕ} 0 1 = cc in omega arith)
-float-range limit (inf s) v l e = absurd (let z : _≡_ {A = ℕ} 0 1 = cc in omega arith)
+float-range limit nan v l e = absurd (clash (cc))
+float-range limit (inf s) v l e = absurd (clash (cc))
 float-range limit (fin s m k) v l e =
     let t = nearest 10 s m k in
     let r = by-range (inRange t) limit t v l e in
@@ -62,7 +68,32 @@ pub taken-range : (r : Reading) (v : Tenths) (l : Bool) → takenOf r ≡ one.Va
 unfolding takenOf
 taken-range (Level x) v l e = float-range false x v l e
 taken-range (Limit x) v l e = float-range true x v l e
-taken-range Missing v l e = absurd (let z : _≡_ {A = ℕ} 0 1 = cc in omega arith)
+taken-range Missing v l e = absurd (clash (cc))
+
+by-time : (b : Bool) (t : ℤ) (h : Hundredths) → cond b (time.Value (record { 0 = P t })) (time.Refused TimeRange) ≡ time.Value h
+    → (b ≡ true) × (P t ≡ h .0)
+by-time true t h e = (refl, cc)
+by-time false t h e = absurd (clash (cc))
+
+time-bounds : (t : ℤ) → inTime t ≡ true → (10 ≤ P t) × (P t ≤ 2000)
+unfolding inTime
+time-bounds (pos n) e = go (leb 10 n) (leb n 2000) refl refl e
+  where
+    go : (a b : Bool) → leb 10 n ≡ a → leb n 2000 ≡ b → a && b ≡ true → (10 ≤ n) × (n ≤ 2000)
+    go true true f g h = (leb-true 10 n f, leb-true n 2000 g)
+    go true false f g h = absurd (clash (cc))
+    go false b f g h = absurd (clash (cc))
+time-bounds (negsuc n) e = absurd (clash (cc))
+
+pub time-range : (x : Float) (h : Hundredths) → timeOf x ≡ time.Value h → (10 ≤ h .0) × (h .0 ≤ 2000)
+unfolding timeOf
+time-range nan h e = absurd (clash (cc))
+time-range (inf s) h e = absurd (clash (cc))
+time-range (fin s m k) h e =
+    let t = nearest 100 s m k in
+    let r = by-time (inTime t) t h e in
+    let b = time-bounds t (r .0) in
+    (omega (arith, r .1), omega (arith, r .1))
 
 -- ---- the first refusal
 
@@ -80,8 +111,34 @@ pub record Kept (t : Taken) : Type 0 where
 
 after-accepted : (o : Outcome) (t : Taken) → after o t ≡ Accepted → (o ≡ Accepted) × Kept t
 after-accepted Accepted (one.Value v l) e = (refl, record { value = v; limit = l; same = refl })
-after-accepted Accepted (one.Refused r) e = absurd (let z : _≡_ {A = ℕ} 0 1 = cc in omega arith)
-after-accepted (Refused r) t e = absurd (let z : _≡_ {A = ℕ} 0 1 = cc in omega arith)
+after-accepted Accepted (one.Refused r) e = absurd (clash (cc))
+after-accepted (Refused r) t e = absurd (clash (cc))
+
+-- a mark as a bit
+abbrev pub bitOf : Bool → ℕ
+bitOf true = 1
+bitOf false = 0
+
+-- a power of two above bit i leaves it as it is
+lower : (m : ℕ) (b : Bool) (n i : ℕ) → i < n → (m + weightOf b n) / 2 ^ i % 2 ≡ m / 2 ^ i % 2
+lower m false n i h = ap (λ (x : ℕ). x / 2 ^ i % 2) (add-zero m)
+lower m true n i h =
+    let d = n - suc i in
+    let e : 2 ^ n ≡ 2 * 2 ^ d * 2 ^ i =
+    ap (λ (k : ℕ). 2 ^ k) (split i n h) ∙ pow-add 2 (suc d) i ∙ ap (λ (x : ℕ). x * 2 ^ i) (pow-succ' 2 d) in
+    ap (λ (x : ℕ). x / 2 ^ i % 2) (ap (λ (x : ℕ). m + x) e ∙ add-comm m (2 * 2 ^ d * 2 ^ i))
+    ∙ ap (λ (x : ℕ). x % 2) (mul-add-div-right (pow-pos i) (2 * 2 ^ d) m)
+    ∙ omega arith
+  where
+    split : (i n : ℕ) → i < n → n ≡ suc (n - suc i) + i
+    split i n h = omega arith
+
+-- and the power at bit n is that bit
+top : (m : ℕ) (b : Bool) (n : ℕ) → m < 2 ^ n → (m + weightOf b n) / 2 ^ n % 2 ≡ bitOf b
+top m false n h = ap (λ (x : ℕ). x % 2) (ap (λ (x : ℕ). x / 2 ^ n) (add-zero m) ∙ div-eq-of-lt h)
+top m true n h =
+    let e : m + 2 ^ n ≡ 1 * 2 ^ n + m = omega arith in
+    ap (λ (x : ℕ). x % 2) (ap (λ (x : ℕ). x / 2 ^ n) e ∙ mul-add-div-right (pow-pos n) 1 m ∙ ap (λ (x : ℕ). 1 + x) (div-eq-of-lt h))
 
 module _ (readings : List Reading) where
   -- nothing is refused: every reading is taken
@@ -97,3 +154,94 @@ module _ (readings : List Reading) where
       go below here (no p) =
           let q : i ≡ n = omega arith in
           subst (λ (k : ℕ). Kept (takenAt readings k)) (sym q) here
+
+  pub record Met (n : ℕ) (r : Refusal) : Type 0 where
+    pub at : ℕ
+    pub first : First readings n at r
+
+  -- the refusal given is that of the lowest reading that is refused
+  pub first-refusal : (n : ℕ) (r : Refusal) → refusalIn readings n ≡ Refused r → Met n r
+  unfolding refusalIn
+  first-refusal zero r e = absurd (clash (cc))
+  first-refusal (suc n) r e = go (refusalIn readings n) (takenAt readings n) refl refl e (λ f. first-refusal n r f)
+    where
+      go : (o : Outcome) (t : Taken) → refusalIn readings n ≡ o → takenAt readings n ≡ t → after o t ≡ Refused r
+          → (refusalIn readings n ≡ Refused r → Met n r) → Met (suc n) r
+      go Accepted (one.Value v l) f g h below = absurd (clash (cc))
+      go Accepted (one.Refused q) f g h below =
+          record { at = n; first = record { within = omega arith; refused = cc; before = f } }
+      go (Refused q) t f g h below =
+          let m = below (f ∙ h) in
+          record {
+            at = m .at;
+            first = record { within = omega (arith, m .first .within); refused = m .first .refused; before = m .first .before };
+          }
+
+  -- ---- the values of a list that was taken
+
+  pub value-kept : (n k i : ℕ) → i < n → n ≤ k → getD (valuesIn readings n k) i nought ≡ valueOf (takenAt readings i)
+  value-kept n k i h g = value-at readings n k i (omega arith) ∙ rw (lt-ltb i n h)
+
+  pub value-range : (n k i : ℕ) → refusalIn readings n ≡ Accepted → i < n → n ≤ k → inRange (getD (valuesIn readings n k) i nought .0) ≡ true
+  value-range n k i e h g =
+      let t = all-kept n i h e in
+      let v : valueOf (takenAt readings i) ≡ t .value = ap valueOf (t .same) in
+      ap (λ (x : Tenths). inRange (x .0)) (value-kept n k i h g ∙ v)
+      ∙ taken-range (getD readings i (Level nan)) (t .value) (t .limit) (t .same)
+
+  -- ---- bit i of the marks is the mark of reading i, and 0 past the last
+
+  pub mark-here : (n i : ℕ) → i < n → marksIn readings n / 2 ^ i % 2 ≡ bitOf (limitOf (takenAt readings i))
+  unfolding marksIn
+  mark-here zero i h = absurd (omega arith)
+  mark-here (suc n) i h = go (λ p. mark-here n i p) (decLt i n)
+    where
+      b : Bool
+      b = limitOf (takenAt readings n)
+
+      go : (i < n → marksIn readings n / 2 ^ i % 2 ≡ bitOf (limitOf (takenAt readings i))) → Dec (i < n)
+          → (marksIn readings n + weightOf b n) / 2 ^ i % 2 ≡ bitOf (limitOf (takenAt readings i))
+      go below (yes p) = lower (marksIn readings n) b n i p ∙ below p
+      go below (no p) =
+          let q : i ≡ n = omega arith in
+          ap (λ (k : ℕ). (marksIn readings n + weightOf b n) / 2 ^ k % 2) q
+          ∙ top (marksIn readings n) b n (marks-bound readings n)
+          ∙ ap (λ (k : ℕ). bitOf (limitOf (takenAt readings k))) (sym q)
+
+  pub mark-past : (n i : ℕ) → n ≤ i → marksIn readings n / 2 ^ i ≡ 0
+  mark-past n i h = div-eq-of-lt (lt-of-lt-of-le (marks-bound readings n) (pow-mono h))
+
+-- ---- for who takes a list: where the outcome is no refusal, the count is right, and the set is that of the readings
+
+pub record Accepts (readings : List Reading) (len bands : ℕ) (r : Intake) : Type 0 where
+  pub count : len ≡ bands
+  pub accepted : refusalIn readings bands ≡ Accepted
+  pub taken : r .set ≡ setOf readings bands
+
+pub list-accepts : (readings : List Reading) (len bands : ℕ) (r : Intake) → r ≡ listOf readings len bands → r .outcome ≡ Accepted
+    → Accepts readings len bands r
+unfolding listOf
+list-accepts readings len bands r e f = go (eqb len bands) (refusalIn readings bands) (λ k. eqb-true len bands k) refl e
+  where
+    go : (b : Bool) (o : Outcome) → (b ≡ true → len ≡ bands) → refusalIn readings bands ≡ o
+        → r ≡ cond b (listBy o readings bands) (refusedList BandCount) → Accepts readings len bands r
+    go true Accepted h g k = record { count = h refl; accepted = g; taken = ap (λ (x : Intake). x .set) k }
+    go true (Refused q) h g k = absurd (clash (cc (ap (λ (x : Intake). x .outcome) k)))
+    go false o h g k = absurd (clash (cc (ap (λ (x : Intake). x .outcome) k)))
+
+-- each band of an accepted list is in range
+pub list-range : (readings : List Reading) (len bands : ℕ) (r : Intake) (i : ℕ) → Accepts readings len bands r → i < bands → bands ≤ 16
+    → inRange (bandOf (r .set) i) ≡ true
+list-range readings len bands r i a h g =
+    ap (λ (s : BandSet). inRange (bandOf s i)) (a .taken) ∙ value-range readings bands 16 i (a .accepted) h g
+
+-- where it is a refusal, nothing else is told
+pub list-refuses : (readings : List Reading) (len bands : ℕ) (r : Intake) (q : Refusal) → r ≡ listOf readings len bands → r .outcome ≡ Refused q
+    → r ≡ refusedList q
+unfolding listOf
+list-refuses readings len bands r q e f = go (eqb len bands) (refusalIn readings bands) e
+  where
+    go : (b : Bool) (o : Outcome) → r ≡ cond b (listBy o readings bands) (refusedList BandCount) → r ≡ refusedList q
+    go true Accepted k = absurd (clash (cc (ap (λ (x : Intake). x .outcome) k)))
+    go true (Refused p) k = k ∙ ap refusedList (cc (ap (λ (x : Intake). x .outcome) k))
+    go false o k = k ∙ ap refusedList (cc (ap (λ (x : Intake). x .outcome) k))

@@ -2,17 +2,15 @@
 -- multiplied through, hold of any equal fraction, and only one number meets them. Assumes nothing.
 use mathlib.Core.Path.{_≡_, refl, sym, _∙_, ap, subst}
 use mathlib.Core.Bool.{Bool, true, false}
-use Prim.Native.Nat.{ℕ, zero, suc, _+_, _*_, _-_, _/_, _%_, _^_, _≤_, _<_}
+use Prim.Native.Nat.{ℕ, zero, suc, _+_, _*_, _-_, _/_, _≤_, _<_}
 use native.Mathlib.Nat.{div-add-mod', mod-lt, mul-comm, mul-assoc, mul-le-mul-right, mul-lt-mul-of-pos-right, mul-pos, add-mul, mul-add}
 use native.Mathlib.Omega.{arith}
-use lib.IntN.{ℤ, pos, negsuc, negℤ, _+ℤ_, _-ℤ_, _*ℤ_}
-use lib.Signed.{shrZ, _≤ℤ_, _<ℤ_}
-use lib.Ieee.{up, down}
-use lib.Ieee.Fits.{down-pos}
+use lib.IntN.{ℤ, pos, negℤ, _+ℤ_, _-ℤ_, _*ℤ_}
+use lib.Signed.{_≤ℤ_, _<ℤ_}
 use Rattle.laws.specs.Parts.{P, N}
-use Rattle.laws.proofs.Ints.{ints, plus, minus, apart, opposite, times-P, times-N, eq-made}
+use Rattle.laws.proofs.Ints.{ints, plus, minus, opposite, times-P, times-N}
 use Rattle.laws.proofs.Floor.{IsFloor, floor-is, floor-unique}
-use Rattle.intake.specs.Nearest.{signedBy, nearestTo, nearest, sizeOf}
+use Rattle.intake.specs.Nearest.{signedBy, nearestTo, heldOf, sizeOf}
 
 -- ---- the meaning
 
@@ -41,21 +39,21 @@ signed-parts true n = opposite (pos (2 * n))
 double : (d x : ℕ) → 2 * d * x ≡ 2 * (d * x)
 double d x = mul-assoc 2 d x
 
+-- d and the signed 2 n, by parts
+sum-parts : (s : Bool) (n d : ℕ) → P (pos d +ℤ signedBy s (2 * n)) + 2 * less s n ≡ N (pos d +ℤ signedBy s (2 * n)) + (d + 2 * more s n)
+sum-parts s n d = omega (arith, plus (pos d) (signedBy s (2 * n)), signed-parts s n)
+
 floor-near : (s : Bool) (n d : ℕ) (t : ℤ) → IsFloor (2 * d) (pos d +ℤ signedBy s (2 * n)) t → Near s n d t
-floor-near s n d t f =
-    let e = plus (pos d) (signedBy s (2 * n)) in
-    let p = signed-parts s n in
-    record {
-        low = omega (arith, e, p, f .low, double d (P t), double d (N t));
-        high = omega (arith, e, p, f .high, double d (P t), double d (N t)) }
+floor-near s n d t f = record {
+  low = omega (arith, sum-parts s n d, f .low, double d (P t), double d (N t));
+  high = omega (arith, sum-parts s n d, f .high, double d (P t), double d (N t));
+}
 
 near-floor : (s : Bool) (n d : ℕ) (t : ℤ) → Near s n d t → IsFloor (2 * d) (pos d +ℤ signedBy s (2 * n)) t
-near-floor s n d t f =
-    let e = plus (pos d) (signedBy s (2 * n)) in
-    let p = signed-parts s n in
-    record {
-        low = omega (arith, e, p, f .low, double d (P t), double d (N t));
-        high = omega (arith, e, p, f .high, double d (P t), double d (N t)) }
+near-floor s n d t f = record {
+  low = omega (arith, sum-parts s n d, f .low, double d (P t), double d (N t));
+  high = omega (arith, sum-parts s n d, f .high, double d (P t), double d (N t));
+}
 
 pub near : (s : Bool) (n d : ℕ) → 0 < d → Near s n d (nearestTo s n d)
 unfolding nearestTo
@@ -96,8 +94,9 @@ swap d x k = mul-assoc d k x ∙ ap (λ (y : ℕ). d * y) (mul-comm k x) ∙ sym
 
 near-times : (s : Bool) (n d k : ℕ) (t : ℤ) → 0 < k → Near s n d t → Near s (n * k) (d * k) t
 near-times s n d k t h f = record {
-    low = omega (arith, times-le (d * P t) (less s n) d (more s n) (d * N t) k (f .low), swap d (P t) k, swap d (N t) k, more-times s n k, less-times s n k);
-    high = omega (arith, times-lt (d * P t) (less s n) d (more s n) (d * N t) k h (f .high), swap d (P t) k, swap d (N t) k, more-times s n k, less-times s n k) }
+  low = omega (arith, times-le (d * P t) (less s n) d (more s n) (d * N t) k (f .low), swap d (P t) k, swap d (N t) k, more-times s n k, less-times s n k);
+  high = omega (arith, times-lt (d * P t) (less s n) d (more s n) (d * N t) k h (f .high), swap d (P t) k, swap d (N t) k, more-times s n k, less-times s n k);
+}
 
 -- n / d and m / c are one number
 pub same-fraction : (s : Bool) (n d m c : ℕ) → 0 < d → 0 < c → n * c ≡ m * d → nearestTo s n d ≡ nearestTo s m c
@@ -125,8 +124,8 @@ near-negative n d (suc q) h g = record { low = omega arith; high = omega arith }
 pub sized : (s : Bool) (n d : ℕ) → 0 < d → signedBy s (sizeOf s n d) ≡ nearestTo s n d
 unfolding sizeOf
 sized false n d h =
-    let a = around (2 * n + d) d h in
-    near-unique false n d (pos ((2 * n + d) / (2 * d))) h (record { low = omega arith; high = omega arith })
+    let a = around (2 * n + d - 0) d h in
+    near-unique false n d (pos ((2 * n + d - 0) / (2 * d))) h (record { low = omega arith; high = omega arith })
 sized true n d h =
     let a = around (2 * n + d - 1) d h in
     near-unique true n d (negℤ (pos ((2 * n + d - 1) / (2 * d)))) h
@@ -135,14 +134,9 @@ sized true n d h =
 -- from 2 ^ 16 parts on, and for a float below 256, it is small
 pub size-small : (s : Bool) (n d : ℕ) → 65536 ≤ d → d ≤ 2147483648 → n ≤ 1677721600 → sizeOf s n d < 2147483648
 unfolding sizeOf
-size-small s n d h g k = go s
-  where
-    below : (x : ℕ) → x ≤ 2 * n + d → x / (2 * d) < 2147483648
-    below x l = omega (arith, around x d (omega arith), mul-le-mul-right (x / (2 * d)) h)
-
-    go : (s : Bool) → sizeOf s n d < 2147483648
-    go false = below (2 * n + d) (omega arith)
-    go true = below (2 * n + d - 1) (omega arith)
+size-small s n d h g k =
+    let x = 2 * n + d - heldOf s in
+    omega (arith, around x d (omega arith), mul-le-mul-right (x / (2 * d)) h)
 
 -- ---- the meaning, over ℤ
 

@@ -1,18 +1,17 @@
 -- Readings one after the other: what a turn of the loop adds to the values and the marks, and that a refusal, once met, is
 -- the refusal of every longer list. Assumes nothing.
-use mathlib.Core.Path.{_≡_, refl, sym, _∙_, ap, subst}
-use mathlib.Core.Bool.{Bool, true, false, cond}
+use mathlib.Core.Path.{_≡_, refl, sym, _∙_, ap}
+use mathlib.Core.Bool.{Bool, true, false}
 use mathlib.Core.List.{List, [], _∷_, _++_}
-use Prim.Native.Nat.{ℕ, zero, suc, _+_, _*_, _-_, _^_, _≤_, _<_, min}
-use native.Mathlib.Nat.{add-zero, add-suc, zero-add, two-pow-succ}
+use Prim.Native.Nat.{ℕ, zero, suc, _+_, _-_, _^_, _≤_, _<_}
+use native.Mathlib.Nat.{add-zero, zero-add, two-pow-succ}
 use native.Mathlib.Numerals.{add-one}
 use native.Mathlib.Decide.{decLt, ℕ-discrete}
 use native.Mathlib.Omega.{arith}
 use borrow.Author.Tests.{lt-ltb, le-ltb, eq-eqb, ne-eqb}
-use lib.Dec.{ltb}
 use lib.ListN.{length, getD, set, take, replicate, length-set, length-take}
 use lib.Seq.{getD-set-same, getD-set-other, getD-take, ext-getD, take-suc, take-suc-set, take-all}
-use lib.Pow.{pow-mono, pow-pos}
+use lib.Pow.{pow-mono}
 use Rattle.quantity.specs.declared.quantities.Tenths.{Tenths}
 use Rattle.quantity.specs.declared.quantities.Reading.{Reading}
 use Rattle.quantity.specs.declared.refusals.Refusal.{Refusal}
@@ -152,16 +151,17 @@ pub taking-more : (readings : List Reading) (count : ℕ) (values : List Tenths)
     → count ≤ 48 → i < count → Taking readings count values marks i → takenAt readings i ≡ one.Value v limit → w ≡ weightOf limit i
     → Taking readings count (set values i v) (marks + w) (i + 1)
 taking-more readings count values marks i v limit w h g t e f = record {
-    within = omega arith;
-    accepted =
-        refusal-more readings i
-        ∙ ap (λ (o : Outcome). after o (takenAt readings i)) (t .accepted)
-        ∙ ap (after Accepted) e;
-    held =
-        ap (λ (l : List Tenths). set l i v) (t .held)
-        ∙ ap (λ (x : Taken). set (valuesIn readings i 48) i (valueOf x)) (sym e)
-        ∙ values-more readings i 48 (omega arith);
-    marked = omega (arith, t .marked, f, marks-more readings i, ap (λ (x : Taken). weightOf (limitOf x) i) e) }
+  within = omega arith;
+  accepted =
+      refusal-more readings i
+      ∙ ap (λ (o : Outcome). after o (takenAt readings i)) (t .accepted)
+      ∙ ap (after Accepted) e;
+  held =
+      ap (λ (l : List Tenths). set l i v) (t .held)
+      ∙ ap (λ (x : Taken). set (valuesIn readings i 48) i (valueOf x)) (sym e)
+      ∙ values-more readings i 48 (omega arith);
+  marked = omega (arith, t .marked, f, marks-more readings i, ap (λ (x : Taken). weightOf (limitOf x) i) e);
+}
 
 -- all are taken
 pub taken-all : (readings : List Reading) (count : ℕ) (values : List Tenths) (marks i : ℕ) → count ≤ i → Taking readings count values marks i
@@ -197,14 +197,15 @@ pub record Copied (values out : List Tenths) (i : ℕ) : Type 0 where
 pub copied-more : (values out : List Tenths) (i : ℕ) → length values ≡ 48 → i < 16 → Copied values out i
     → Copied values (set out i (getD values i nought)) (i + 1)
 copied-more values out i l h c = record {
-    within = omega arith;
-    whole = length-set out i (getD values i nought) ∙ c .whole;
-    same =
-        ap (λ (k : ℕ). take k (set out i (getD values i nought))) (add-one i)
-        ∙ take-suc-set out i (getD values i nought) (omega (arith, c .whole))
-        ∙ ap (λ (t : List Tenths). t ++ (getD values i nought ∷ [])) (c .same)
-        ∙ sym (take-suc values i nought (omega arith))
-        ∙ ap (λ (k : ℕ). take k values) (sym (add-one i)) }
+  within = omega arith;
+  whole = length-set out i (getD values i nought) ∙ c .whole;
+  same =
+      ap (λ (k : ℕ). take k (set out i (getD values i nought))) (add-one i)
+      ∙ take-suc-set out i (getD values i nought) (omega (arith, c .whole))
+      ∙ ap (λ (t : List Tenths). t ++ (getD values i nought ∷ [])) (c .same)
+      ∙ sym (take-suc values i nought (omega arith))
+      ∙ ap (λ (k : ℕ). take k values) (sym (add-one i));
+}
 
 pub copied-all : (values out : List Tenths) (i : ℕ) → 16 ≤ i → Copied values out i → out ≡ take 16 values
 copied-all values out i h c =
@@ -225,7 +226,7 @@ unfolding listOf
 list-same readings len bands e = rw (eq-eqb len bands e)
 
 -- the readings' outcome is that of the list
-outcome-is : (readings : List Reading) (n : ℕ) (all : Readings) → all ≡ allOf readings n → all .outcome ≡ refusalIn readings n
+pub outcome-is : (readings : List Reading) (n : ℕ) (all : Readings) → all ≡ allOf readings n → all .outcome ≡ refusalIn readings n
 unfolding allOf
 outcome-is readings n all e = ap (λ (a : Readings). a .outcome) e ∙ go (refusalIn readings n)
   where
@@ -239,7 +240,7 @@ list-refused readings len bands all r e f g =
     ap (λ (o : Outcome). listBy o readings bands) (sym g ∙ outcome-is readings bands all f) ∙ list-same readings len bands e
 
 -- what was taken, where nothing was refused
-accepted-is : (readings : List Reading) (n : ℕ) (all : Readings) → all ≡ allOf readings n → all .outcome ≡ Accepted → all ≡ allBy Accepted readings n
+pub accepted-is : (readings : List Reading) (n : ℕ) (all : Readings) → all ≡ allOf readings n → all .outcome ≡ Accepted → all ≡ allBy Accepted readings n
 unfolding allOf
 accepted-is readings n all f g = f ∙ ap (λ (o : Outcome). allBy o readings n) (sym (outcome-is readings n all f) ∙ g)
 
@@ -253,7 +254,7 @@ pub list-accepted : (readings : List Reading) (len bands : ℕ) (all : Readings)
 list-accepted readings len bands all values e f g h =
     let a : all ≡ allBy Accepted readings bands = accepted-is readings bands all f g in
     let v : values ≡ valuesIn readings bands 16 =
-        h ∙ ap (λ (x : Readings). take 16 (x .values)) a ∙ values-head readings bands 48 16 (omega arith) in
+    h ∙ ap (λ (x : Readings). take 16 (x .values)) a ∙ values-head readings bands 48 16 (omega arith) in
     ap (λ (l : List Tenths). record { outcome = Accepted; set = record { values = l; marks = all .marks; len = bands } }) v
     ∙ ap (λ (x : Readings). record { outcome = Accepted; set = record { values = valuesIn readings bands 16; marks = x .marks; len = bands } }) a
     ∙ ap (λ (o : Outcome). listBy o readings bands) (sym g ∙ outcome-is readings bands all f)

@@ -1,13 +1,13 @@
 -- What the shifts of the rounding are: powers of two that stay small, so that nothing wraps. Assumes nothing.
-use mathlib.Core.Path.{_≡_, refl, sym, _∙_, ap}
+use mathlib.Core.Path.{_≡_, _∙_, ap}
 use mathlib.Core.Bool.{Bool, true, false}
-use Prim.Native.Nat.{ℕ, zero, suc, _+_, _*_, _-_, _/_, _%_, _^_, _≤_, _<_}
-use native.Mathlib.Nat.{mul-le-mul-right, mul-le-mul-left, le-trans, one-mul, mul-comm}
+use Prim.Native.Nat.{ℕ, _+_, _*_, _-_, _/_, _%_, _^_, _≤_, _<_}
+use native.Mathlib.Nat.{mul-le-mul-right, one-mul, mul-comm}
 use native.Mathlib.Omega.{arith}
 use lib.IntN.{ℤ, pos, negℤ, _-ℤ_}
 use lib.Pow.{pow-add, pow-pos, pow-mono, shl-exact}
-use Rattle.laws.proofs.Ints.{ints, minus, opposite, apart}
-use Rattle.intake.specs.Nearest.{sizeOf, nearestTo, signedBy}
+use Rattle.laws.proofs.Ints.{ints, minus, opposite}
+use Rattle.intake.specs.Nearest.{heldOf, sizeOf, nearestTo}
 use Rattle.intake.proofs.Nearest.{sized, size-small}
 
 pub product : (scale digits : ℕ) → scale ≤ 100 → digits < 16777216 → scale * digits ≤ 1677721600
@@ -22,13 +22,13 @@ power p h g = (pow-mono {i = 16} {j = p} h, pow-mono {i = p} {j = 31} g)
 twice-power : (p : ℕ) → 2 ^ (p + 1) ≡ 2 * 2 ^ p
 twice-power p = pow-add 2 p 1 ∙ mul-comm (2 ^ p) 2
 
-pub shifted-plus : (n p : ℕ) → p ≤ 31 → (2 * n + 1 * 2 ^ p % 18446744073709551616) / 2 ^ (p + 1) ≡ sizeOf false n (2 ^ p)
-unfolding sizeOf
-shifted-plus n p h = rw (one-shifted p (omega arith), twice-power p)
+pub held-small : (s : Bool) → heldOf s ≤ 1
+held-small true = omega arith
+held-small false = omega arith
 
-pub shifted-minus : (n p : ℕ) → p ≤ 31 → (2 * n + 1 * 2 ^ p % 18446744073709551616 - 1) / 2 ^ (p + 1) ≡ sizeOf true n (2 ^ p)
+pub shifted : (s : Bool) (n p h : ℕ) → p ≤ 31 → h ≡ heldOf s → (2 * n + 1 * 2 ^ p % 18446744073709551616 - h) / 2 ^ (p + 1) ≡ sizeOf s n (2 ^ p)
 unfolding sizeOf
-shifted-minus n p h = rw (one-shifted p (omega arith), twice-power p)
+shifted s n p h k e = rw (one-shifted p (omega arith), twice-power p, e)
 
 -- the size fits, and with its sign it is the nearest number
 pub size-fits : (s : Bool) (scale digits p : ℕ) → scale ≤ 100 → digits < 16777216 → 16 ≤ p → p ≤ 31

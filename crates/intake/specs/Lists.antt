@@ -1,7 +1,7 @@
 -- Document 01, "Refusal numbers": "bands from the lowest, each 3, 2, 4"; and the set that a list of readings becomes.
 use mathlib.Core.Bool.{Bool, true, false, cond}
 use mathlib.Core.List.{List, [], _∷_}
-use Prim.Native.Nat.{ℕ, zero, suc, _+_, _*_, _^_}
+use Prim.Native.Nat.{ℕ, zero, suc, _+_, _^_}
 use lib.Dec.{ltb, eqb}
 use lib.IntN.{pos}
 use lib.Ieee.{nan}
@@ -20,7 +20,7 @@ use Rattle.intake.specs.declared.lists.Readings.{Readings}
 use Rattle.intake.specs.declared.lists.Intake.{Intake}
 use Rattle.intake.specs.Taken.{takenOf}
 
--- what becomes of reading i, counted from 0
+-- what becomes of reading i, counted from 0 (past the end of a list `getD` gives its default, which no call asks for)
 abbrev pub takenAt : List Reading → ℕ → Taken
 takenAt readings i = takenOf (getD readings i (Level nan))
 
@@ -85,11 +85,13 @@ allBy (Refused r) readings n = refusedAll r
 unfoldable pub allOf : List Reading → ℕ → Readings
 allOf readings n = allBy (refusalIn readings n) readings n
 
+-- the set of the first n readings: n values, and zeros past them
+abbrev pub setOf : List Reading → ℕ → BandSet
+setOf readings n = record { values = valuesIn readings n 16; marks = marksIn readings n; len = n }
+
 -- a band list for a kind of `bands` bands: "1: number of bands is not the kind's", then the bands from the lowest
 abbrev pub listBy : Outcome → List Reading → ℕ → Intake
-listBy Accepted readings n = record {
-    outcome = Accepted;
-    set = record { values = valuesIn readings n 16; marks = marksIn readings n; len = n } }
+listBy Accepted readings n = record { outcome = Accepted; set = setOf readings n }
 listBy (Refused r) readings n = refusedList r
 
 unfoldable pub listOf : List Reading → ℕ → ℕ → Intake

@@ -25,10 +25,13 @@ nearest scale s m e = nearestTo s (scale * (m * up e)) (down e)
 
 -- ---- between the definition and the code
 
--- how far from 0 that number is
+-- how far from 0 that number is: a half goes up, so toward 0 where s
+abbrev pub heldOf : Bool → ℕ
+heldOf false = 0
+heldOf true = 1
+
 unfoldable pub sizeOf : Bool → ℕ → ℕ → ℕ
-sizeOf false n d = (2 * n + d) / (2 * d)
-sizeOf true n d = (2 * n + d - 1) / (2 * d)
+sizeOf s n d = (2 * n + d - heldOf s) / (2 * d)
 
 -- a float in units: beyond what any range reaches from 256 on
 unfoldable pub wholeOf : ℕ → Float → Whole

@@ -1,6 +1,6 @@
 -- Document 01, "Quantities and ranges": what becomes of one reading.
+-- Its order of refusals is 3, 2, 4.
 use mathlib.Core.Bool.{Bool, true, false, cond}
-use Prim.Native.Nat.{ℕ}
 use lib.IntN.{ℤ}
 use lib.Ieee.{Float, nan, inf, fin}
 use Rattle.quantity.specs.Quantities.{inRange}

@@ -6,7 +6,7 @@ use quantity::Reading;
 use quantity::Refusal;
 use quantity::Tenths;
 ghost use mathlib.Core.Path.{_≡_};
-ghost use Prim.Native.Nat.{_≤_, _*_, _^_, _<_};
+ghost use Prim.Native.Nat.{_≤_, _<_};
 ghost use Rattle.intake.specs.Lists.{allOf, listOf, weightOf, refusedAll, refusedList, headOf};
 
 // Whether all was taken.

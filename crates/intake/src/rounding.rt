@@ -3,7 +3,7 @@ use quantity::signed::less;
 ghost use mathlib.Core.Path.{_≡_};
 ghost use Prim.Native.Nat.{_*_, _^_, _≤_, _<_};
 ghost use lib.Ieee.{ofBits, binary32};
-ghost use Rattle.intake.specs.Nearest.{nearestTo, sizeOf, wholeOf};
+ghost use Rattle.intake.specs.Nearest.{nearestTo, heldOf, sizeOf, wholeOf};
 
 // A float in units of 1 / scale.
 pub enum Whole {
@@ -15,19 +15,20 @@ pub enum Whole {
     NotFinite,
 }
 
-// How far from 0 the nearest whole number of units of digits / 2 ^ places is. A half goes up: away from 0, or toward it where
-// the number is negative.
+// What is held back from a half before it is added: a half goes up, so toward 0 where the number is negative.
+fn held(negative: bool) -> u64
+    ensures { λ r. ⌜ r ≡ heldOf negative ⌝ }
+{
+    if negative { 1 } else { 0 }
+}
+
+// How far from 0 the nearest whole number of units of digits / 2 ^ places is.
 fn size(negative: bool, scale: u64, digits: u64, places: u64) -> u64
     requires { ⌜ (scale ≤ 100) × (digits < 16777216) ⌝ }
     requires { ⌜ (16 ≤ places) × (places ≤ 31) ⌝ }
     ensures { λ r. ⌜ r ≡ sizeOf negative (scale * digits) (2 ^ places) ⌝ }
 {
-    let halves = 2 * (scale * digits) + (1 << places);
-    if negative {
-        (halves - 1) >> (places + 1)
-    } else {
-        halves >> (places + 1)
-    }
+    (2 * (scale * digits) + (1 << places) - held(negative)) >> (places + 1)
 }
 
 // The nearest whole number of units of digits / 2 ^ places.
@@ -37,7 +38,11 @@ fn units(negative: bool, scale: u64, digits: u64, places: u64) -> i32
     ensures { λ r. ⌜ r ≡ nearestTo negative (scale * digits) (2 ^ places) ⌝ }
 {
     let size = size(negative, scale, digits, places) as u32;
-    if negative { less(0, size) } else { less(size, 0) }
+    if negative {
+        less(0, size)
+    } else {
+        less(size, 0)
+    }
 }
 
 // The same of a bit pattern: a sign, a field for the exponent, 23 digits. From field 135 on the float is 256 or more in size;

@@ -8,3 +8,4 @@ pub mod Meaning
 pub mod Weighing
 pub mod Sheeted
 pub mod Rated
+pub mod Theorems

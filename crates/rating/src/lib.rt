@@ -9,6 +9,7 @@ mod sheets;
 pub use kinds::Kind;
 pub use kinds::Numbers;
 pub use kinds::numbers_of;
+pub use levels::all_in_range;
 pub use sheets::Rated;
 pub use sheets::Sheet;
 pub use sheets::Term;

@@ -2,7 +2,6 @@
 use Prim.Native.Nat.{_-_}
 use mathlib.Core.Path.{refl}
 use native.Mathlib.Omega.{arith}
-use borrow.Author.Needs.{needs}
 use Rattle.intake.proofs.Runs.{Copied, copied-more, copied-all}
 use Rattle.intake.proofs.lists.head.Statement.{statement}
 use Rattle.intake.proofs.lists.head.Tie as tie

@@ -1,8 +1,8 @@
 -- `intake::rounding::units` meets its contract: the size is small, and takes the sign. Assumes nothing.
 use borrow.Author.Needs.{needs}
-use mathlib.Core.Path.{_∙_, ap}
+use mathlib.Core.Path.{_∙_}
 use native.Mathlib.Omega.{arith}
-use Prim.Native.Nat.{_*_, _^_}
+use Prim.Native.Nat.{_*_}
 use Rattle.quantity.proofs.Rim.{back}
 use Rattle.intake.proofs.Shifts.{size-fits, plus-sign, minus-sign}
 use Rattle.intake.proofs.rounding.units.Statement.{statement}

@@ -1,6 +1,6 @@
 -- `intake::singles::take_reading` meets its contract: an arm for each kind of reading. Assumes nothing.
 use borrow.Author.Needs.{needs}
-use mathlib.Core.Path.{_≡_, refl, sym, _∙_, ap}
+use mathlib.Core.Path.{sym, _∙_, ap}
 use Rattle.intake.specs.Taken.{takenOf}
 use Rattle.intake.proofs.singles.take_reading.Statement.{statement}
 use Rattle.intake.proofs.singles.take_reading.Tie as tie

@@ -1,0 +1,2 @@
+-- The one theorem on the table of pencil checks.
+pub mod Checked

@@ -1,0 +1,103 @@
+-- Document 01, "Pencil checks": the cases marked P, as one table over the definitions. Each row is a claim that is computed.
+use mathlib.Core.Bool.{Bool, true, false, _&&_}
+use mathlib.Core.List.{List, [], _∷_}
+use mathlib.Core.Path.{_≡_}
+use Prim.Native.Nat.{ℕ, zero, suc, _+_, _*_, _-_}
+use lib.Dec.{eqb}
+use lib.IntN.{ℤ, pos, negsuc, negℤ, _+ℤ_, _-ℤ_, _*ℤ_}
+use lib.ListN.{getD, length}
+use Rattle.quantity.specs.Quantities.{halfUp}
+use Rattle.energy.specs.Corrections.{c, k}
+use Rattle.rating.specs.declared.kinds.Kind.{Kind}
+use Rattle.rating.specs.declared.kinds.Kind.the-variants.{A3, A1, I3, I1}
+use Rattle.rating.specs.Kinds.{airborne, bandsOf, referenceOf}
+use Rattle.rating.specs.Curve.{total, ratingOf, shiftsOf}
+use Rattle.rating.specs.Sheets.{firstBy, secondBy}
+use Rattle.rating.specs.Terms.{airborneTerm, impactTerm}
+use Rattle.rating.specs.Kinds.{C, Ctr}
+
+-- bands from the lowest, in tenths
+abbrev pub Bands : Type 0
+Bands = List ℤ
+
+abbrev pub at : Bands → ℕ → ℤ
+at x i = getD x i (pos 0)
+
+-- sixteen times 50.0
+abbrev pub fifties : Bands
+fifties = pos 500 ∷ pos 500 ∷ pos 500 ∷ pos 500 ∷ pos 500 ∷ pos 500 ∷ pos 500 ∷ pos 500 ∷ pos 500 ∷ pos 500 ∷ pos 500 ∷ pos 500 ∷ pos 500 ∷ pos 500 ∷ pos 500 ∷ pos 500 ∷ []
+
+-- the octaves of the line K2
+abbrev pub octaves : Bands
+octaves = pos 240 ∷ pos 330 ∷ pos 400 ∷ pos 430 ∷ pos 440 ∷ []
+
+-- the reference floor
+abbrev pub floor : Bands
+floor = pos 670 ∷ pos 675 ∷ pos 680 ∷ pos 685 ∷ pos 690 ∷ pos 695 ∷ pos 700 ∷ pos 705 ∷ pos 710 ∷ pos 715 ∷ pos 720 ∷ pos 720 ∷ pos 720 ∷ pos 720 ∷ pos 720 ∷ pos 720 ∷ []
+
+-- the reference floor less 0 0 0 2 6 10 14 18 22 26 30 30 30 30 30 30 dB
+abbrev pub covered : Bands
+covered = pos 670 ∷ pos 675 ∷ pos 680 ∷ pos 665 ∷ pos 630 ∷ pos 595 ∷ pos 560 ∷ pos 525 ∷ pos 490 ∷ pos 455 ∷ pos 420 ∷ pos 420 ∷ pos 420 ∷ pos 420 ∷ pos 420 ∷ pos 420 ∷ []
+
+-- x = K + 50 dB, with 500 Hz at 40.0, and with 400 and 500 Hz each 8 dB down
+abbrev pub even : Bands
+even = pos 310 ∷ pos 340 ∷ pos 370 ∷ pos 400 ∷ pos 430 ∷ pos 460 ∷ pos 490 ∷ pos 500 ∷ pos 510 ∷ pos 520 ∷ pos 530 ∷ pos 540 ∷ pos 540 ∷ pos 540 ∷ pos 540 ∷ pos 540 ∷ []
+
+abbrev pub dipped : Bands
+dipped = pos 310 ∷ pos 340 ∷ pos 370 ∷ pos 400 ∷ pos 430 ∷ pos 460 ∷ pos 490 ∷ pos 400 ∷ pos 510 ∷ pos 520 ∷ pos 530 ∷ pos 540 ∷ pos 540 ∷ pos 540 ∷ pos 540 ∷ pos 540 ∷ []
+
+abbrev pub twice-dipped : Bands
+twice-dipped = pos 310 ∷ pos 340 ∷ pos 370 ∷ pos 400 ∷ pos 430 ∷ pos 460 ∷ pos 410 ∷ pos 420 ∷ pos 510 ∷ pos 520 ∷ pos 530 ∷ pos 540 ∷ pos 540 ∷ pos 540 ∷ pos 540 ∷ pos 540 ∷ []
+
+-- one pencil check
+pub data Case : Type 0 where
+  -- a set of a kind has this rating, first term, and count of shifts
+  rates : Kind → Bands → ℤ → ℤ → ℕ → Case
+  -- an airborne set has this second term
+  second : Kind → Bands → ℤ → Case
+  -- a set's rating alone
+  rating : Kind → Bands → ℤ → Case
+  -- the total of a set's deficits at a position
+  totals : Kind → Bands → ℤ → ℕ → Case
+  -- c(d), and k(T)
+  background : ℕ → ℕ → Case
+  time : ℕ → ℤ → Case
+
+-- what a check claims
+abbrev pub Claim : Case → Type 0
+Claim (rates k x r t s) = (ratingOf k (at x) ≡ r) × (firstBy (airborne k) k (at x) ≡ t) × (shiftsOf k (at x) ≡ s)
+Claim (second k x t) = halfUp (airborneTerm k (at x) (Ctr k)) ≡ t
+Claim (rating k x r) = ratingOf k (at x) ≡ r
+Claim (totals k x p t) = total k (at x) p ≡ t
+Claim (background d n) = c d ≡ n
+Claim (time t z) = k t ≡ z
+
+abbrev pub All : List Case → Type 0
+All [] = Unit {0}
+All (x ∷ xs) = Claim x × All xs
+
+unfoldable pub table : List Case
+table =
+    -- the four lines of the whole example
+    rates A3 fifties (pos 50) (pos 0) 5 ∷
+    second A3 fifties (pos 0) ∷
+    rates A1 octaves (pos 42) (negℤ (pos 2)) 0 ∷
+    second A1 octaves (negℤ (pos 6)) ∷
+    rates I3 floor (pos 78) (negℤ (pos 10)) 13 ∷
+    -- K + 50 dB rates 52, with a total of exactly 320
+    rating A3 even (pos 52) ∷
+    totals A3 even (pos 52) 320 ∷
+    -- the two variants
+    rating A3 dipped (pos 51) ∷
+    rating A3 twice-dipped (pos 51) ∷
+    -- the covered floor
+    rating I3 covered (pos 59) ∷
+    -- corrections
+    background 60 13 ∷
+    background 61 12 ∷
+    background 70 10 ∷
+    background 149 1 ∷
+    time 10 (negℤ (pos 70)) ∷
+    time 50 (pos 0) ∷
+    time 100 (pos 30) ∷
+    time 2000 (pos 160) ∷ []

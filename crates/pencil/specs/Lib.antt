@@ -1,0 +1,2 @@
+-- The table of pencil checks.
+pub mod Cases

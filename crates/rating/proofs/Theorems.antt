@@ -1,0 +1,186 @@
+-- What the rating means, in document 01's words, for all four kinds by one proof: the rating is the greatest (least) position
+-- within the limit over all of ℤ, and the only one; the count of shifts is the distance from the start; what lies past the
+-- stated length never matters. Assumes nothing.
+use mathlib.Core.Path.{_≡_, refl, sym, _∙_, ap, ap₂, subst}
+use mathlib.Core.Bool.{Bool, true, false, cond, _&&_, _||_}
+use Prim.Native.Nat.{ℕ, zero, suc, _+_, _*_, _-_, _≤_, _<_}
+use native.Mathlib.Nat.{le-refl}
+use native.Mathlib.Decide.{decLe}
+use native.Mathlib.Omega.{arith}
+use lib.Dec.{T, eqb, leb}
+use lib.IntN.{ℤ, pos, _+ℤ_, _-ℤ_, _*ℤ_}
+use lib.Signed.{_≤ℤ_}
+use Rattle.laws.specs.Parts.{P, N}
+use Rattle.laws.specs.Sums.{sumTo, sumℤ}
+use Rattle.laws.proofs.Ints.{ints, plus, minus, apart, eq-made, le-read}
+use Rattle.laws.proofs.Sums.{sum-same, sumℤ-same}
+use Rattle.quantity.specs.Quantities.{inRange, halfUp, bandOf}
+use Rattle.quantity.specs.declared.quantities.BandSet.{BandSet}
+use Rattle.quantity.specs.declared.refusals.Refusal.the-variants.{BandCount, BandRange}
+use Rattle.energy.specs.Energies.{F, u}
+use Rattle.rating.specs.declared.kinds.Kind.{Kind}
+use Rattle.rating.specs.declared.sheets.Rated.{Rated}
+use Rattle.rating.specs.declared.sheets.Rated.the-variants.{Rating, Refused}
+use Rattle.rating.specs.declared.sheets.Sheet.{Sheet}
+use Rattle.rating.specs.declared.sheets.Term.the-variants.{Given}
+use Rattle.rating.specs.Kinds.{airborne, bandsOf, limitOf, referenceOf, C, Ctr}
+use Rattle.rating.specs.Bands.{allTo, anyTo, bit, accepted, limited}
+use Rattle.rating.specs.Curve.{deficit, total, within, stricterBy, IsPosition, startBy, startOf, shiftedBy, shifted, firstFrom, shiftsOf, positionOf, takenOff, ratingOf}
+use Rattle.rating.specs.Terms.{lesser, greater, leastTo, greatestTo, less, weighted, airborneTerm, impactTerm}
+use Rattle.rating.specs.Sheets.{firstBy, secondBy, sheetOf, ratedOf, asked}
+use Rattle.rating.specs.Levels.{levelAt, entriesOf, startAdd, startAt, totalAt, Settled}
+use Rattle.rating.proofs.Walks.{total-zero, next-over}
+use Rattle.rating.proofs.Searched.{count-some}
+use Rattle.rating.proofs.Facts.{count-of}
+use Rattle.rating.proofs.Meaning.{is-position}
+
+-- ---- the search always ends
+pub record Found (f : ℕ → ℕ) (n limit start : ℕ) : Type 0 where
+  pub place : ℕ
+  pub moves : ℕ
+  pub settled : Settled f n limit start place moves
+
+-- stop here, or go on below
+choose : (f : ℕ → ℕ) (n limit start p shifts : ℕ) → p + shifts ≡ start → ((s : ℕ) → s < shifts → limit < totalAt f n (start - s))
+    → (limit < totalAt f n p → Found f n limit start) → Dec (totalAt f n p ≤ limit) → Found f n limit start
+choose f n limit start p shifts e over next (yes h) =
+    record { place = p; moves = shifts; settled = record { distance = e; fits = h; over = over } }
+choose f n limit start p shifts e over next (no h) = next (omega arith)
+
+down-from : (f : ℕ → ℕ) (n limit start p shifts : ℕ) → p + shifts ≡ start → ((s : ℕ) → s < shifts → limit < totalAt f n (start - s))
+    → Found f n limit start
+down-from f n limit start zero shifts e over =
+    choose f n limit start 0 shifts e over (λ h. absurd (omega (arith, total-zero f n))) (decLe (totalAt f n 0) limit)
+down-from f n limit start (suc p) shifts e over =
+    choose f n limit start (suc p) shifts e over
+    (λ h. down-from f n limit start p (shifts + 1) (omega arith)
+    (next-over f n limit start (suc p) shifts (totalAt f n (suc p)) e refl h over))
+    (decLe (totalAt f n (suc p)) limit)
+
+pub found : (f : ℕ → ℕ) (n limit start : ℕ) → Found f n limit start
+found f n limit start = down-from f n limit start start 0 (omega arith) (λ s h. absurd (omega arith))
+
+-- ---- "The rating is the greatest whole X whose deficits total at most the limit", "take the least whole Y"
+pub position-best : (k : Kind) (s : BandSet) → accepted s (bandsOf k) ≡ true → IsPosition k (bandOf s) (positionOf k (bandOf s))
+position-best k s acc =
+    let w = found (levelAt (airborne k) s (entriesOf k)) (bandsOf k) (limitOf k) (startAt (levelAt (airborne k) s (entriesOf k)) (bandsOf k) (startAdd k)) in
+    is-position k s acc (w .place) (w .moves) (w .settled)
+
+both-strict : (sign : Bool) (p q : ℤ) → stricterBy sign p q → stricterBy sign q p → p ≡ q
+both-strict true p q a b = eq-made (omega (arith, le-read a, le-read b))
+both-strict false p q a b = eq-made (omega (arith, le-read a, le-read b))
+
+pub position-unique : (k : Kind) (x : ℕ → ℤ) (p q : ℤ) → IsPosition k x p → IsPosition k x q → p ≡ q
+position-unique k x p q a b = both-strict (airborne k) p q (a .best q (b .holds)) (b .best p (a .holds))
+
+-- ---- "The number of curve shifts is the distance from that start to the accepted position."
+abbrev pub distanceBy : Bool → ℤ → ℤ → ℤ
+distanceBy true start p = start -ℤ p
+distanceBy false start p = p -ℤ start
+
+back-by : (sign : Bool) (start : ℤ) (s : ℕ) → distanceBy sign start (shiftedBy sign start s) ≡ pos s
+back-by true start s = eq-made (omega (arith, minus start (start -ℤ pos s), minus start (pos s)))
+back-by false start s = eq-made (omega (arith, minus (start +ℤ pos s) start, plus start (pos s)))
+
+pub shifts-distance : (k : Kind) (x : ℕ → ℤ) → distanceBy (airborne k) (startOf k x) (positionOf k x) ≡ pos (shiftsOf k x)
+unfolding positionOf shifted
+shifts-distance k x = back-by (airborne k) (startOf k x) (shiftsOf k x)
+
+-- ---- what lies past the stated length does not matter
+all-same : (f g : ℕ → Bool) (n : ℕ) → ((i : ℕ) → i < n → f i ≡ g i) → allTo f n ≡ allTo g n
+unfolding allTo
+all-same f g zero h = refl
+all-same f g (suc n) h = ap₂ _&&_ (all-same f g n (λ i q. h i (omega arith))) (h n (le-refl (suc n)))
+
+any-same : (f g : ℕ → Bool) (n : ℕ) → ((i : ℕ) → i < n → f i ≡ g i) → anyTo f n ≡ anyTo g n
+unfolding anyTo
+any-same f g zero h = refl
+any-same f g (suc n) h = ap₂ _||_ (any-same f g n (λ i q. h i (omega arith))) (h n (le-refl (suc n)))
+
+least-same : (f g : ℕ → ℤ) (n : ℕ) → ((i : ℕ) → i < suc n → f i ≡ g i) → leastTo f n ≡ leastTo g n
+unfolding leastTo
+least-same f g zero h = h 0 (omega arith)
+least-same f g (suc n) h = ap₂ lesser (least-same f g n (λ i q. h i (omega arith))) (h (suc n) (le-refl (suc (suc n))))
+
+greatest-same : (f g : ℕ → ℤ) (n : ℕ) → ((i : ℕ) → i < suc n → f i ≡ g i) → greatestTo f n ≡ greatestTo g n
+unfolding greatestTo
+greatest-same f g zero h = h 0 (omega arith)
+greatest-same f g (suc n) h = ap₂ greater (greatest-same f g n (λ i q. h i (omega arith))) (h (suc n) (le-refl (suc (suc n))))
+
+first-same : (f g : ℕ → Bool) (tries s : ℕ) → ((i : ℕ) → f i ≡ g i) → firstFrom f tries s ≡ firstFrom g tries s
+unfolding firstFrom
+first-same f g zero s h = refl
+first-same f g (suc tries) s h = ap₂ (λ (b : Bool) (m : ℕ). cond b s m) (h s) (first-same f g tries (suc s) h)
+
+module _ (k : Kind) (x y : ℕ → ℤ) (same : (i : ℕ) → i < bandsOf k → x i ≡ y i) where
+  within-same : (p : ℤ) → within k x p ≡ within k y p
+  unfolding within total
+  within-same p = ap (λ (t : ℕ). leb t (limitOf k))
+      (sum-same (λ i. deficit k p (referenceOf k i) (x i)) (λ i. deficit k p (referenceOf k i) (y i)) (bandsOf k)
+      (λ i h. ap (deficit k p (referenceOf k i)) (same i h)))
+
+  start-same : startOf k x ≡ startOf k y
+  unfolding startOf
+  start-same = ap (λ (z : ℤ). startBy (airborne k) z (10 * bandsOf k)) (sumℤ-same x y (bandsOf k) same)
+
+  shifts-same : shiftsOf k x ≡ shiftsOf k y
+  unfolding shiftsOf
+  shifts-same = first-same (λ s. within k x (shifted k (startOf k x) s)) (λ s. within k y (shifted k (startOf k y) s)) 500 0
+      (λ s. within-same (shifted k (startOf k x) s) ∙ ap (λ (z : ℤ). within k y (shifted k z s)) start-same)
+
+  rating-same : ratingOf k x ≡ ratingOf k y
+  unfolding ratingOf positionOf
+  rating-same = ap₂ (λ (z : ℤ) (s : ℕ). shifted k z s -ℤ takenOff k) start-same shifts-same
+
+  some : 1 ≤ bandsOf k
+  some = count-some (count-of k)
+
+  airborne-same : (L : ℕ → ℤ) → airborneTerm k x L ≡ airborneTerm k y L
+  unfolding airborneTerm weighted
+  airborne-same L =
+      let n : ℕ = bandsOf k in
+      let a : ℕ → ℤ = less x L in
+      let b : ℕ → ℤ = less y L in
+      let e : (i : ℕ) → i < n → a i ≡ b i = λ i h. ap (λ (z : ℤ). less (λ j. z) L i) (same i h) in
+      let m : leastTo a (n - 1) ≡ leastTo b (n - 1) = least-same a b (n - 1) (λ i h. e i (omega (arith, some))) in
+      let S : sumTo (λ i. F (P (a i -ℤ leastTo a (n - 1)))) n ≡ sumTo (λ i. F (P (b i -ℤ leastTo b (n - 1)))) n =
+      sum-same (λ i. F (P (a i -ℤ leastTo a (n - 1)))) (λ i. F (P (b i -ℤ leastTo b (n - 1)))) n
+      (λ i h. ap₂ (λ (z w : ℤ). F (P (z -ℤ w))) (e i h) m) in
+      ap₂ (λ (z : ℤ) (r : ℤ). z -ℤ pos 10 *ℤ r) (ap₂ (λ (z : ℤ) (t : ℕ). z -ℤ pos (u t)) m S) rating-same
+
+  impact-same : impactTerm k x ≡ impactTerm k y
+  unfolding impactTerm
+  impact-same =
+      let n : ℕ = bandsOf k in
+      let m : greatestTo x (n - 1) ≡ greatestTo y (n - 1) = greatest-same x y (n - 1) (λ i h. same i (omega (arith, some))) in
+      let S : sumTo (λ i. F (P (greatestTo x (n - 1) -ℤ x i))) n ≡ sumTo (λ i. F (P (greatestTo y (n - 1) -ℤ y i))) n =
+      sum-same (λ i. F (P (greatestTo x (n - 1) -ℤ x i))) (λ i. F (P (greatestTo y (n - 1) -ℤ y i))) n
+      (λ i h. ap₂ (λ (z w : ℤ). F (P (z -ℤ w))) m (same i h)) in
+      ap₂ (λ (z : ℤ) (r : ℤ). z -ℤ pos 150 -ℤ pos 10 *ℤ r) (ap₂ (λ (z : ℤ) (t : ℕ). z +ℤ pos (u t)) m S) rating-same
+
+  first-same-by : (sign : Bool) → firstBy sign k x ≡ firstBy sign k y
+  first-same-by true = ap halfUp (airborne-same (C k))
+  first-same-by false = ap halfUp impact-same
+
+  second-same-by : (sign : Bool) → secondBy sign k x ≡ secondBy sign k y
+  second-same-by true = ap (λ (z : ℤ). Given (record { 0 = halfUp z })) (airborne-same (Ctr k))
+  second-same-by false = refl
+
+sheet-same : (k : Kind) (s t : BandSet) → ((i : ℕ) → i < bandsOf k → bandOf s i ≡ bandOf t i)
+    → ((i : ℕ) → i < bandsOf k → bit (s .marks) i ≡ bit (t .marks) i) → sheetOf k s ≡ sheetOf k t
+unfolding sheetOf limited
+sheet-same k s t values marks = λ i. record {
+  rating = record { 0 = rating-same k (bandOf s) (bandOf t) values i };
+  first = record { 0 = first-same-by k (bandOf s) (bandOf t) values (airborne k) i };
+  second = second-same-by k (bandOf s) (bandOf t) values (airborne k) i;
+  shifts = shifts-same k (bandOf s) (bandOf t) values i;
+  limit = any-same (bit (s .marks)) (bit (t .marks)) (bandsOf k) marks i;
+}
+
+pub past-length : (k : Kind) (s t : BandSet) → s .len ≡ t .len → ((i : ℕ) → i < bandsOf k → bandOf s i ≡ bandOf t i)
+    → ((i : ℕ) → i < bandsOf k → bit (s .marks) i ≡ bit (t .marks) i) → ratedOf k s ≡ ratedOf k t
+unfolding ratedOf accepted
+past-length k s t len values marks =
+    let b : allTo (λ j. inRange (bandOf s j)) (bandsOf k) ≡ allTo (λ j. inRange (bandOf t j)) (bandsOf k) =
+    all-same (λ j. inRange (bandOf s j)) (λ j. inRange (bandOf t j)) (bandsOf k) (λ j h. ap inRange (values j h)) in
+    λ i. asked (eqb (len i) (bandsOf k)) (asked (b i) (Rating (sheet-same k s t values marks i)) (Refused BandRange)) (Refused BandCount)
