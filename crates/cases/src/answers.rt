@@ -1,8 +1,13 @@
 // The calls, by the number that a case begins with, and their answers as text.
 use crate::numbers::Case;
 use crate::numbers::natural;
+use crate::sets::float_at;
 use crate::sets::kind_at;
+use crate::sets::reading_at;
+use crate::sets::readings_at;
 use crate::sets::set_at;
+use intake::Taken;
+use intake::Time;
 use libc::STDOUT_FILENO;
 use quantity::Decibels;
 use quantity::Refusal;
@@ -82,13 +87,51 @@ fn print_rated(r: Rated) {
 
 // 1: the rating of a set of tenths.
 fn rate_tenths(case: Case) {
-    print_rated(rating::rate(kind_at(case, 1), set_at(case, 2, 3, 4)));
+    print_rated(desk::rate(kind_at(case, 1), set_at(case, 2, 3, 4)));
+}
+
+fn print_taken(t: Taken) {
+    match t {
+        Taken::Value(value, limit) => {
+            print(b"0");
+            print_signed(value.0);
+            print_flag(limit);
+        }
+        Taken::Refused(n) => print_refusal(n),
+    }
+}
+
+// 2: one reading.
+fn take_reading(case: Case) {
+    print_taken(desk::take_reading(reading_at(case, 1)));
+}
+
+// 3: the rating of a list of readings.
+fn rate_readings(case: Case) {
+    let length = natural(case, 2) as usize;
+    print_rated(desk::rate_readings(kind_at(case, 1), readings_at(case, 3, 16), length));
+}
+
+// 4: a reverberation time.
+fn take_time(case: Case) {
+    let taken = intake::take_time(float_at(case, 1));
+    match taken {
+        Time::Value(t) => {
+            print(b"0");
+            print_natural(t.0 as u64);
+        }
+        Time::Refused(n) => print_refusal(n),
+    }
 }
 
 pub fn answer(case: Case) {
     let call = natural(case, 0);
-    if call == 1 {
-        rate_tenths(case);
+    match call {
+        1 => rate_tenths(case),
+        2 => take_reading(case),
+        3 => rate_readings(case),
+        4 => take_time(case),
+        _ => print(b"?"),
     }
     print(b"\n");
 }

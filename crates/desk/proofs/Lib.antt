@@ -1,0 +1,2 @@
+-- Laws of the open library.
+pub mod Joined

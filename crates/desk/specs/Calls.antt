@@ -1,0 +1,23 @@
+-- Calls that put two definitions together.
+use mathlib.Core.List.{List}
+use Prim.Native.Nat.{ℕ}
+use Rattle.quantity.specs.declared.quantities.BandSet.{BandSet}
+use Rattle.quantity.specs.declared.quantities.Reading.{Reading}
+use Rattle.intake.specs.declared.lists.Outcome.{Outcome}
+use Rattle.intake.specs.declared.lists.Outcome.the-variants as outcome
+use Rattle.intake.specs.declared.lists.Intake.{Intake}
+use Rattle.intake.specs.Lists.{listOf}
+use Rattle.rating.specs.declared.kinds.Kind.{Kind}
+use Rattle.rating.specs.declared.sheets.Rated.{Rated}
+use Rattle.rating.specs.declared.sheets.Rated.the-variants.{Refused}
+use Rattle.rating.specs.Kinds.{bandsOf}
+use Rattle.rating.specs.Sheets.{ratedOf}
+
+-- the rating of what the intake of a list gives
+abbrev pub ratedBy : Kind → BandSet → Outcome → Rated
+ratedBy k s outcome.Accepted = ratedOf k s
+ratedBy k s (outcome.Refused r) = Refused r
+
+-- a rating from readings: "1; then bands from the lowest, each 3, 2, 4"
+unfoldable pub readingsRated : Kind → List Reading → ℕ → Rated
+readingsRated k readings len = ratedBy k (listOf readings len (bandsOf k) .set) (listOf readings len (bandsOf k) .outcome)

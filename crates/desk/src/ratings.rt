@@ -1,0 +1,43 @@
+// Readings and ratings.
+use intake::Outcome;
+use intake::Taken;
+use intake::take_list;
+use quantity::BandSet;
+use quantity::Reading;
+use rating::Kind;
+use rating::Rated;
+use rating::numbers_of;
+ghost use mathlib.Core.Path.{_≡_};
+ghost use Rattle.intake.specs.Taken.{takenOf};
+ghost use Rattle.rating.specs.Sheets.{ratedOf};
+ghost use Rattle.desk.specs.Calls.{readingsRated};
+
+// One reading in tenths with its limit mark, or 3, 2, 4 in that order.
+pub fn take_reading(reading: Reading) -> Taken
+    ensures { λ r. ⌜ r ≡ takenOf reading ⌝ }
+{
+    intake::take_reading(reading)
+}
+
+// The sheet of a set of tenths: 1 where its length is not the kind's, then 4 for the lowest band out of range.
+pub fn rate(kind: Kind, set: BandSet) -> Rated
+    ensures { λ r. ⌜ r ≡ ratedOf kind set ⌝ }
+{
+    rating::rate(kind, set)
+}
+
+// The sheet of a list of readings, `len` of them stated: 1, then the bands from the lowest, each 3, 2, 4.
+pub fn rate_readings(kind: Kind, readings: [Reading; 48], len: usize) -> Rated
+    ensures { λ r. ⌜ r ≡ readingsRated kind readings len ⌝ }
+{
+    let numbers = numbers_of(kind);
+    let list = take_list(readings, len, numbers.bands);
+    let outcome = list.outcome;
+    match outcome {
+        Outcome::Refused(refusal) => Rated::Refused(refusal),
+        Outcome::Accepted => {
+            let set = list.set;
+            rating::rate(kind, set)
+        }
+    }
+}
