@@ -1,0 +1,267 @@
+/*
+ * Imbrolt: sound insulation ratings in whole numbers, from a proved library.
+ *
+ * Link libdesk_c.a. It needs no other library, allocates nothing, keeps no state between calls and
+ * may be called from any number of threads at once.
+ *
+ * What every function has in common
+ *
+ *   Return value   0 (IMBROLT_OK), or the number of a refusal (enum imbrolt_refusal).
+ *   Units          Measured values and levels are whole tenths of a decibel, in -200..1500. Ratings,
+ *                  targets and terms are whole decibels. Nothing converts between them unasked.
+ *   Arrays         An array is a pointer and, right after it, the number of its elements (not of
+ *                  bytes). No element is touched past that number; where it is 0 the pointer is not
+ *                  followed and may be NULL. Arrays lent to one call must not overlap.
+ *   Answers        Written to the array `out` from out[0], in the order given below. Elements past the
+ *                  answer keep their contents. An array that is longer than needed is fine.
+ *   Refusals       A refused call changes no array. When several refusals apply, the one returned is
+ *                  the first in the order given with the function; IMBROLT_OUTPUT_TOO_SMALL is always
+ *                  tested last.
+ *   Limit          1 where a value stands for "at least" (airborne, improvements, grades) or "at most"
+ *                  (impact), 0 where it is what it says. Limit values are rated as the number shown.
+ *   Marks of a set Bit i is the limit mark of band i, band 0 the lowest. Bits past the bands of the
+ *                  set do not matter.
+ */
+#ifndef IMBROLT_H
+#define IMBROLT_H
+
+#include <stddef.h>
+#include <stdint.h>
+
+#ifdef __cplusplus
+extern "C" {
+#endif
+
+/* What a call was refused for. */
+enum imbrolt_refusal {
+    IMBROLT_OK = 0,
+    IMBROLT_BAND_COUNT = 1,          /* number of bands is not the kind's; or no such kind */
+    IMBROLT_NOT_FINITE = 2,          /* float is NaN or infinite */
+    IMBROLT_READING_MISSING = 3,     /* reading is missing */
+    IMBROLT_BAND_RANGE = 4,          /* band value outside -200..1500 tenths */
+    IMBROLT_BACKGROUND_TOO_NEAR = 5, /* laboratory rule: level less background under 60 tenths */
+    IMBROLT_DERIVED_RANGE = 6,       /* value worked out lies outside -200..1500 tenths */
+    IMBROLT_TIME_RANGE = 7,          /* reverberation time outside 10..2000 hundredths of a second */
+    IMBROLT_TARGET_NOT_BETTER = 8,   /* target is not better than the rating */
+    IMBROLT_TARGET_RANGE = 9,        /* target outside -100..200 decibels */
+    IMBROLT_OUTPUT_TOO_SMALL = 10,   /* lent array too small for the answer, or offset past its end */
+    IMBROLT_NOT_A_REQUEST = 11,      /* line is not a request; stands in answer lines only */
+    IMBROLT_NOT_SPECIMENS = 12       /* specimens are not 48 values */
+};
+
+/* What was measured. Any other number is no kind, and is refused with IMBROLT_BAND_COUNT. */
+enum imbrolt_kind {
+    IMBROLT_A3 = 0, /* airborne, 16 thirds of an octave, 100 to 3150 Hz */
+    IMBROLT_A1 = 1, /* airborne, 5 octaves, 125 to 2000 Hz */
+    IMBROLT_I3 = 2, /* impact, 16 thirds of an octave */
+    IMBROLT_I1 = 3  /* impact, 5 octaves */
+};
+
+/* The mark of a reading. Any other number is that of a missing reading, too. */
+enum imbrolt_mark {
+    IMBROLT_LEVEL = 0,
+    IMBROLT_LIMIT = 1,
+    IMBROLT_MISSING = 2
+};
+
+/* Which term decides on a grade: Ctr outside, C inside. Any number but 0 is inside. */
+enum imbrolt_side {
+    IMBROLT_OUTSIDE = 0,
+    IMBROLT_INSIDE = 1
+};
+
+/* The places that each answer needs. */
+enum imbrolt_places {
+    IMBROLT_READING_PLACES = 2,
+    IMBROLT_SHEET_PLACES = 6,
+    IMBROLT_COVER_PLACES = 3,
+    IMBROLT_FIELD_PLACES = 2,
+    IMBROLT_LABORATORY_PLACES = 1,
+    IMBROLT_RAW_PLACES = 2,
+    IMBROLT_OCTAVES_PLACES = 6,
+    IMBROLT_SPECIMENS_PLACES = 17,
+    IMBROLT_GRADE_PLACES = 6,
+    IMBROLT_LIFT_THIRDS_PLACES = 696, /* of the list, for A3 and I3 */
+    IMBROLT_LIFT_OCTAVES_PLACES = 25, /* of the list, for A1 and I1 */
+    IMBROLT_LIFT_PLACES = 1,
+    IMBROLT_WROTE_PLACES = 1,
+    IMBROLT_PROGRESS_PLACES = 3
+};
+
+/*
+ * Takes in one reading of an analyser: the tenth nearest the float's exact value, a tie to the greater.
+ *
+ *   out[0]  the value in tenths
+ *   out[1]  limit, 0 or 1
+ *
+ * Refusals: IMBROLT_READING_MISSING, IMBROLT_NOT_FINITE, IMBROLT_BAND_RANGE, IMBROLT_OUTPUT_TOO_SMALL.
+ */
+uint32_t imbrolt_reading(uint32_t mark, float value, int32_t *out, size_t out_len);
+
+/*
+ * Rates a set of bands, values[0] the lowest, in tenths.
+ *
+ *   out[0]  rating
+ *   out[1]  first term: C for airborne, the impact term for impact
+ *   out[2]  second term: Ctr for airborne; 0 for impact, which has none
+ *   out[3]  1 where there is a second term, else 0
+ *   out[4]  number of curve shifts
+ *   out[5]  limit, 0 or 1
+ *
+ * Refusals: IMBROLT_BAND_COUNT, IMBROLT_BAND_RANGE, IMBROLT_OUTPUT_TOO_SMALL.
+ */
+uint32_t imbrolt_rate(uint32_t kind, const int32_t *values, size_t values_len, uint32_t marks,
+                      int32_t *out, size_t out_len);
+
+/*
+ * Rates readings: marks[i] and values[i] are those of band i. The number of bands is values_len; a
+ * reading whose mark lies past the end of marks is missing.
+ *
+ *   out     as for imbrolt_rate
+ *
+ * Refusals: IMBROLT_BAND_COUNT; then for each band from the lowest IMBROLT_READING_MISSING,
+ * IMBROLT_NOT_FINITE, IMBROLT_BAND_RANGE; then IMBROLT_OUTPUT_TOO_SMALL.
+ */
+uint32_t imbrolt_rate_readings(uint32_t kind, const uint8_t *marks, size_t marks_len,
+                               const float *values, size_t values_len, int32_t *out, size_t out_len);
+
+/*
+ * Rates the improvement by a floor cover, given band by band for 16 thirds, in tenths.
+ *
+ *   out[0]  improvement rating
+ *   out[1]  its term
+ *   out[2]  limit, 0 or 1
+ *
+ * Refusals: IMBROLT_BAND_COUNT, IMBROLT_BAND_RANGE for any band, then IMBROLT_DERIVED_RANGE,
+ * IMBROLT_OUTPUT_TOO_SMALL.
+ */
+uint32_t imbrolt_cover(const int32_t *values, size_t values_len, uint32_t marks, int32_t *out,
+                       size_t out_len);
+
+/*
+ * Corrects a level for background noise by the field rule; both in tenths.
+ *
+ *   out[0]  corrected level, not tested for range (it may fall to -213)
+ *   out[1]  limit, 0 or 1
+ *
+ * Refusals: IMBROLT_BAND_RANGE for the total, then for the background; IMBROLT_OUTPUT_TOO_SMALL.
+ */
+uint32_t imbrolt_field(int32_t total, int32_t background, int32_t *out, size_t out_len);
+
+/*
+ * Corrects a level for background noise by the laboratory rule; both in tenths.
+ *
+ *   out[0]  corrected level, not tested for range
+ *
+ * Refusals: IMBROLT_BAND_RANGE for the total, then for the background; IMBROLT_BACKGROUND_TOO_NEAR;
+ * IMBROLT_OUTPUT_TOO_SMALL.
+ */
+uint32_t imbrolt_laboratory(int32_t total, int32_t background, int32_t *out, size_t out_len);
+
+/*
+ * Works out the standardized level difference of one raw band: source-room level, receiving-room
+ * level, background level and reverberation time in seconds.
+ *
+ *   out[0]  difference in tenths
+ *   out[1]  limit, 0 or 1
+ *
+ * Refusals: IMBROLT_NOT_FINITE, IMBROLT_BAND_RANGE for each of the levels in this order;
+ * IMBROLT_NOT_FINITE, IMBROLT_TIME_RANGE for the time; IMBROLT_DERIVED_RANGE;
+ * IMBROLT_OUTPUT_TOO_SMALL.
+ */
+uint32_t imbrolt_raw(float source, float receiving, float background, float time, int32_t *out,
+                     size_t out_len);
+
+/*
+ * Forms the 5 octaves of 16 thirds, in tenths. The last third is not used.
+ *
+ *   out[0] .. out[4]  the octaves, from the lowest
+ *   out[5]            their marks, bits 0 to 4
+ *
+ * Refusals: IMBROLT_BAND_COUNT, IMBROLT_BAND_RANGE, IMBROLT_OUTPUT_TOO_SMALL.
+ */
+uint32_t imbrolt_octaves(const int32_t *values, size_t values_len, uint32_t marks, int32_t *out,
+                         size_t out_len);
+
+/*
+ * Forms the band means of three specimens: 48 readings, specimen after specimen, each from its lowest
+ * band. The number of readings is values_len; a reading whose mark lies past the end of marks is
+ * missing.
+ *
+ *   out[0] .. out[15]  the means in tenths, from the lowest band
+ *   out[16]            their marks, bits 0 to 15
+ *
+ * Refusals: IMBROLT_NOT_SPECIMENS; then for each reading in the order given IMBROLT_READING_MISSING,
+ * IMBROLT_NOT_FINITE, IMBROLT_BAND_RANGE; then IMBROLT_OUTPUT_TOO_SMALL.
+ */
+uint32_t imbrolt_specimens(const uint8_t *marks, size_t marks_len, const float *values,
+                           size_t values_len, int32_t *out, size_t out_len);
+
+/*
+ * Grades a door or window from three specimens, given as for imbrolt_specimens.
+ *
+ *   out[0]  rating
+ *   out[1]  C
+ *   out[2]  Ctr
+ *   out[3]  deciding number: rating + Ctr outside, rating + C inside
+ *   out[4]  grade, 0 to 6
+ *   out[5]  limit, 0 or 1
+ *
+ * Refusals: as for imbrolt_specimens.
+ */
+uint32_t imbrolt_grade(uint32_t side, const uint8_t *marks, size_t marks_len, const float *values,
+                       size_t values_len, int32_t *out, size_t out_len);
+
+/*
+ * Lists the smallest sets of 1 to 3 bands that would have to be lifted for a better rating. The set is
+ * given as for imbrolt_rate, the target in decibels.
+ *
+ *   list[0] ..  the sets, by size, then lowest, next and last band; bit 0 is the lowest band
+ *   out[0]      how many there are, 0 where no set of up to 3 bands is enough
+ *
+ * The list needs 696 places for thirds and 25 for octaves, however many sets there are; places past
+ * the count keep their contents.
+ *
+ * Refusals: IMBROLT_BAND_COUNT, IMBROLT_BAND_RANGE, IMBROLT_TARGET_RANGE, IMBROLT_TARGET_NOT_BETTER,
+ * IMBROLT_OUTPUT_TOO_SMALL (list or out).
+ */
+uint32_t imbrolt_lift(uint32_t kind, const int32_t *values, size_t values_len, uint32_t marks,
+                      int32_t target, uint16_t *list, size_t list_len, int32_t *out, size_t out_len);
+
+/*
+ * Answers one request line, given with its line feed.
+ *
+ *   out[at] ..  the answer line with its line feed; bytes before and after it keep their contents
+ *   wrote[0]    its length in bytes, at most 64
+ *
+ * A refused request is answered by a line that names its refusal, and what is not a request by the
+ * line `?`, `?`, 11; the call itself is refused only with IMBROLT_OUTPUT_TOO_SMALL (at is past the
+ * end of out, the line does not fit between at and the end, or wrote has no place).
+ */
+uint32_t imbrolt_line(const uint8_t *line, size_t line_len, uint8_t *out, size_t out_len, size_t at,
+                      uint64_t *wrote, size_t wrote_len);
+
+/*
+ * Answers the lines of a stream, a block of bytes at a time.
+ *
+ *   out[0] ..    the answers to the whole lines of input for which out has room
+ *   progress[0]  bytes of input used: hand the others in again, at the front of the next block
+ *   progress[1]  bytes written to out
+ *   progress[2]  1 while the rest of a line too long to be a request is passed over, else 0
+ *
+ * Hand in skipping = 0 with the first block and progress[2] of the call before with every other;
+ * last = 1 once the input ends with this block, else 0 (any number but 0 is 1). A last piece without
+ * its line feed is then answered too. The answers of all calls, joined, are those of the whole
+ * stream, however it was cut: one for each line, in order. An out of 64 bytes or more has room for
+ * any answer.
+ *
+ * Refused only with IMBROLT_OUTPUT_TOO_SMALL, where progress has fewer than 3 places.
+ */
+uint32_t imbrolt_block(const uint8_t *input, size_t input_len, uint32_t skipping, uint32_t last,
+                       uint8_t *out, size_t out_len, uint64_t *progress, size_t progress_len);
+
+#ifdef __cplusplus
+}
+#endif
+
+#endif

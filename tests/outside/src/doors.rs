@@ -1,0 +1,207 @@
+//! The doors through which a frame's call is made.
+
+use crate::frame::{Call, Frame, Part};
+use std::io::{Read, Write};
+use std::process::{Child, ChildStdin, ChildStdout, Command, Stdio};
+
+/// The calls of one door, as functions on slices.
+pub struct Calls {
+    reading: fn(u32, f32, &mut [i32]) -> u32,
+    rate: fn(u32, &[i32], u32, &mut [i32]) -> u32,
+    rate_readings: fn(u32, &[u8], &[f32], &mut [i32]) -> u32,
+    cover: fn(&[i32], u32, &mut [i32]) -> u32,
+    field: fn(i32, i32, &mut [i32]) -> u32,
+    laboratory: fn(i32, i32, &mut [i32]) -> u32,
+    raw: fn(f32, f32, f32, f32, &mut [i32]) -> u32,
+    octaves: fn(&[i32], u32, &mut [i32]) -> u32,
+    specimens: fn(&[u8], &[f32], &mut [i32]) -> u32,
+    grade: fn(u32, &[u8], &[f32], &mut [i32]) -> u32,
+    lift: fn(u32, &[i32], u32, i32, &mut [u16], &mut [i32]) -> u32,
+    line: fn(&[u8], &mut [u8], usize, &mut [u64]) -> u32,
+    block: fn(&[u8], u32, u32, &mut [u8], &mut [u64]) -> u32,
+}
+
+macro_rules! calls_of {
+    ($door:path) => {{
+        use $door::*;
+        Calls {
+            reading,
+            rate,
+            rate_readings,
+            cover,
+            field,
+            laboratory,
+            raw,
+            octaves,
+            specimens,
+            grade,
+            lift,
+            line,
+            block,
+        }
+    }};
+}
+
+/// The archive that this program is linked with.
+pub static PROVED: Calls = calls_of!(imbrolt::door);
+/// The plain implementation.
+pub static PLAIN: Calls = calls_of!(imbrolt_plain::door);
+
+impl Calls {
+    /// Makes the call of a frame, in its memory.
+    pub fn make(&self, frame: &mut Frame) -> u32 {
+        let [a, b, c, d] = frame.numbers;
+        let word = |number: u64| number as u32;
+        let signed = |number: u64| number as i32;
+        let float = |number: u64| f32::from_bits(number as u32);
+        // A call that has fewer arrays than three leaves the others empty.
+        match frame.call {
+            Call::Reading => (self.reading)(word(a), float(b), frame.arrays::<i32, u8, u8>().0),
+            Call::Rate => {
+                let (values, out, _) = frame.arrays::<i32, i32, u8>();
+                (self.rate)(word(a), values, word(b), out)
+            }
+            Call::RateReadings => {
+                let (marks, values, out) = frame.arrays();
+                (self.rate_readings)(word(a), marks, values, out)
+            }
+            Call::Cover => {
+                let (values, out, _) = frame.arrays::<i32, i32, u8>();
+                (self.cover)(values, word(a), out)
+            }
+            Call::Field => (self.field)(signed(a), signed(b), frame.arrays::<i32, u8, u8>().0),
+            Call::Laboratory => {
+                (self.laboratory)(signed(a), signed(b), frame.arrays::<i32, u8, u8>().0)
+            }
+            Call::Raw => {
+                let out = frame.arrays::<i32, u8, u8>().0;
+                (self.raw)(float(a), float(b), float(c), float(d), out)
+            }
+            Call::Octaves => {
+                let (values, out, _) = frame.arrays::<i32, i32, u8>();
+                (self.octaves)(values, word(a), out)
+            }
+            Call::Specimens => {
+                let (marks, values, out) = frame.arrays();
+                (self.specimens)(marks, values, out)
+            }
+            Call::Grade => {
+                let (marks, values, out) = frame.arrays();
+                (self.grade)(word(a), marks, values, out)
+            }
+            Call::Lift => {
+                let (values, list, out) = frame.arrays();
+                (self.lift)(word(a), values, word(b), signed(c), list, out)
+            }
+            Call::Line => {
+                let (line, out, wrote) = frame.arrays();
+                (self.line)(line, out, a as usize, wrote)
+            }
+            Call::Block => {
+                let (input, out, progress) = frame.arrays();
+                (self.block)(input, word(a), word(b), out, progress)
+            }
+        }
+    }
+}
+
+/// Where the proved library is called.
+pub enum Door {
+    /// In the archive that this program is linked with.
+    Linked,
+    /// In another program, which speaks as door.c does.
+    Program(Program),
+}
+
+impl Door {
+    /// Makes each frame's call in its memory; answers what the calls returned. `meanwhile` runs
+    /// while the calls are made, or after them.
+    pub fn make(&mut self, frames: &mut [Frame], meanwhile: impl FnOnce()) -> Vec<u32> {
+        match self {
+            Door::Linked => {
+                let returned = frames.iter_mut().map(|frame| PROVED.make(frame)).collect();
+                meanwhile();
+                returned
+            }
+            Door::Program(program) => {
+                program.send(frames);
+                meanwhile();
+                program.receive(frames)
+            }
+        }
+    }
+
+    /// Makes one call.
+    pub fn make_one(&mut self, frame: &mut Frame) -> u32 {
+        self.make(std::slice::from_mut(frame), || ())[0]
+    }
+}
+
+/// A running door program.
+pub struct Program {
+    child: Child,
+    to: ChildStdin,
+    from: ChildStdout,
+}
+
+/// The bytes of a frame before its memory: the call, the words of the memory, four numbers, and
+/// the start and length of three arrays.
+const HEAD: usize = 4 + 4 + 4 * 8 + 3 * (4 + 4);
+
+impl Program {
+    pub fn start(words: &[String]) -> std::io::Result<Program> {
+        let mut child = Command::new(&words[0])
+            .args(&words[1..])
+            .stdin(Stdio::piped())
+            .stdout(Stdio::piped())
+            .spawn()?;
+        let to = child.stdin.take().expect("it is piped");
+        let from = child.stdout.take().expect("it is piped");
+        Ok(Program { child, to, from })
+    }
+
+    /// A batch: its length in bytes, then its frames.
+    fn send(&mut self, frames: &[Frame]) {
+        let mut batch = vec![0; 8];
+        for frame in frames {
+            batch.extend((frame.call as u32).to_ne_bytes());
+            batch.extend((frame.memory.len() as u32).to_ne_bytes());
+            batch.extend(frame.numbers.iter().flat_map(|number| number.to_ne_bytes()));
+            for Part { start, length } in frame.parts {
+                batch.extend((start as u32).to_ne_bytes());
+                batch.extend((length as u32).to_ne_bytes());
+            }
+            batch.extend(frame.bytes());
+        }
+        let length = batch.len() as u64 - 8;
+        batch[..8].copy_from_slice(&length.to_ne_bytes());
+        self.to.write_all(&batch).expect("the door program reads its batch");
+    }
+
+    /// The batch again, each frame's call number replaced by what the call returned.
+    fn receive(&mut self, frames: &mut [Frame]) -> Vec<u32> {
+        let length = frames.iter().map(|frame| HEAD + 8 * frame.memory.len()).sum();
+        let mut batch = vec![0; length];
+        self.from.read_exact(&mut batch).expect("the door program answers its batch");
+        let mut rest = &batch[..];
+        let mut returned = Vec::with_capacity(frames.len());
+        for frame in frames {
+            let (head, tail) = rest.split_at(HEAD);
+            let (memory, tail) = tail.split_at(8 * frame.memory.len());
+            returned.push(u32::from_ne_bytes(head[..4].try_into().expect("four bytes")));
+            for (word, bytes) in frame.memory.iter_mut().zip(memory.chunks_exact(8)) {
+                *word = u64::from_ne_bytes(bytes.try_into().expect("eight bytes"));
+            }
+            rest = tail;
+        }
+        returned
+    }
+}
+
+impl Drop for Program {
+    fn drop(&mut self) {
+        // It ends at the end of its input; this makes sure where this program fails first.
+        let _ = self.child.kill();
+        let _ = self.child.wait();
+    }
+}

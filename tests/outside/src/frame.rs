@@ -1,0 +1,140 @@
+//! One call as it is made through a door: its numbers, its arrays, and the memory around them.
+
+use crate::seeded::Seeded;
+
+/// The calls, in the order of `include/imbrolt.h`.
+#[derive(Clone, Copy, Debug, PartialEq, Eq)]
+#[repr(u32)]
+pub enum Call {
+    Reading,
+    Rate,
+    RateReadings,
+    Cover,
+    Field,
+    Laboratory,
+    Raw,
+    Octaves,
+    Specimens,
+    Grade,
+    Lift,
+    Line,
+    Block,
+}
+
+/// An array in the memory of a frame: where it starts, in bytes, and how many elements it has.
+#[derive(Clone, Copy, Debug, Default, PartialEq, Eq)]
+pub struct Part {
+    pub start: usize,
+    pub length: usize,
+}
+
+/// A call that can be made more than once, each time on a copy.
+///
+/// All arrays stand in one memory, among junk. Two doors agree on a call when they answer the same
+/// number and leave the same memory: so the junk shows whatever is written where it should not be.
+#[derive(Clone, Debug, PartialEq, Eq)]
+pub struct Frame {
+    pub call: Call,
+    /// The numbers of the call in their order, floats by their bits.
+    pub numbers: [u64; 4],
+    /// The arrays of the call in their order.
+    pub parts: [Part; 3],
+    pub memory: Vec<u64>,
+}
+
+/// A number that fills an array as it is.
+pub trait Element: Copy {}
+impl Element for u8 {}
+impl Element for u16 {}
+impl Element for u32 {}
+impl Element for i32 {}
+impl Element for u64 {}
+impl Element for f32 {}
+
+impl Frame {
+    /// An array of the frame.
+    pub fn array<T: Element>(&self, part: usize) -> &[T] {
+        let Part { start, length } = self.within::<T>(part);
+        // Safe: the array lies within the memory, is aligned, and any bits are a number.
+        unsafe { std::slice::from_raw_parts(self.memory.as_ptr().byte_add(start).cast(), length) }
+    }
+
+    fn array_mut<T: Element>(&mut self, part: usize) -> &mut [T] {
+        let Part { start, length } = self.within::<T>(part);
+        // Safe: as above.
+        unsafe {
+            std::slice::from_raw_parts_mut(self.memory.as_mut_ptr().byte_add(start).cast(), length)
+        }
+    }
+
+    /// Three arrays of the frame, each to read or to write.
+    pub fn arrays<A: Element, B: Element, C: Element>(
+        &mut self,
+    ) -> (&mut [A], &mut [B], &mut [C]) {
+        let this: *mut Frame = self;
+        // Safe: the arrays of a frame do not overlap.
+        unsafe { ((*this).array_mut(0), (*this).array_mut(1), (*this).array_mut(2)) }
+    }
+
+    fn within<T>(&self, part: usize) -> Part {
+        let part = self.parts[part];
+        let end = part.start + part.length * size_of::<T>();
+        assert!(end <= 8 * self.memory.len() && part.start % align_of::<T>() == 0);
+        part
+    }
+
+    /// The memory as bytes.
+    pub fn bytes(&self) -> &[u8] {
+        // Safe: any number is eight bytes.
+        unsafe { std::slice::from_raw_parts(self.memory.as_ptr().cast(), 8 * self.memory.len()) }
+    }
+}
+
+/// Puts a frame together, with junk before, between and after its arrays.
+pub struct Builder<'a> {
+    seeded: &'a mut Seeded,
+    frame: Frame,
+    numbers: usize,
+    parts: usize,
+}
+
+impl Builder<'_> {
+    pub fn new(seeded: &mut Seeded, call: Call) -> Builder<'_> {
+        let memory = Vec::with_capacity(256);
+        let frame = Frame { call, numbers: [0; 4], parts: [Part::default(); 3], memory };
+        Builder { seeded, frame, numbers: 0, parts: 0 }.junk(2)
+    }
+
+    fn junk(mut self, words: usize) -> Self {
+        for _ in 0..words {
+            self.frame.memory.push(self.seeded.next());
+        }
+        self
+    }
+
+    pub fn number(mut self, number: u64) -> Self {
+        self.frame.numbers[self.numbers] = number;
+        self.numbers += 1;
+        self
+    }
+
+    /// An array whose contents do not matter to the call, or must stay.
+    pub fn lend<T: Element>(mut self, length: usize) -> Self {
+        self.frame.parts[self.parts] = Part { start: 8 * self.frame.memory.len(), length };
+        self.parts += 1;
+        let guards = 1 + self.seeded.below(2);
+        self.junk((length * size_of::<T>()).div_ceil(8) + guards)
+    }
+
+    /// An array with these contents.
+    pub fn give<T: Element>(self, contents: &[T]) -> Self {
+        let mut lent = self.lend::<T>(contents.len());
+        let part = lent.parts - 1;
+        lent.frame.array_mut(part).copy_from_slice(contents);
+        lent
+    }
+
+    pub fn done(self) -> Frame {
+        self.frame
+    }
+}
