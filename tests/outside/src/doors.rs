@@ -7,7 +7,7 @@ use std::process::{Child, ChildStdin, ChildStdout, Command, Stdio};
 /// The calls of one door, as functions on slices.
 pub struct Calls {
     reading: fn(u32, f32, &mut [i32]) -> u32,
-    rate: fn(u32, &[i32], u32, &mut [i32]) -> u32,
+    pub rate: fn(u32, &[i32], u32, &mut [i32]) -> u32,
     rate_readings: fn(u32, &[u8], &[f32], &mut [i32]) -> u32,
     cover: fn(&[i32], u32, &mut [i32]) -> u32,
     field: fn(i32, i32, &mut [i32]) -> u32,
@@ -17,7 +17,7 @@ pub struct Calls {
     specimens: fn(&[u8], &[f32], &mut [i32]) -> u32,
     grade: fn(u32, &[u8], &[f32], &mut [i32]) -> u32,
     lift: fn(u32, &[i32], u32, i32, &mut [u16], &mut [i32]) -> u32,
-    line: fn(&[u8], &mut [u8], usize, &mut [u64]) -> u32,
+    pub line: fn(&[u8], &mut [u8], usize, &mut [u64]) -> u32,
     block: fn(&[u8], u32, u32, &mut [u8], &mut [u64]) -> u32,
 }
 

@@ -68,9 +68,7 @@ impl Frame {
     }
 
     /// Three arrays of the frame, each to read or to write.
-    pub fn arrays<A: Element, B: Element, C: Element>(
-        &mut self,
-    ) -> (&mut [A], &mut [B], &mut [C]) {
+    pub fn arrays<A: Element, B: Element, C: Element>(&mut self) -> (&mut [A], &mut [B], &mut [C]) {
         let this: *mut Frame = self;
         // Safe: the arrays of a frame do not overlap.
         unsafe { ((*this).array_mut(0), (*this).array_mut(1), (*this).array_mut(2)) }

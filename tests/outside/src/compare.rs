@@ -1,0 +1,159 @@
+//! The comparison: each frame through the door and through the plain implementation.
+
+use crate::doors::{Door, PLAIN};
+use crate::frame::{Call, Frame, Part};
+use crate::inputs::{frame, Lengths};
+use crate::seeded::Seeded;
+use crate::streams;
+use std::fmt::Write;
+
+/// The calls that are compared, and how many frames or streams of each.
+pub const PLAN: [(Call, &str, usize); 13] = [
+    (Call::Reading, "reading", 200_000),
+    (Call::Rate, "rate", 250_000),
+    (Call::RateReadings, "rate_readings", 100_000),
+    (Call::Cover, "cover", 80_000),
+    (Call::Field, "field", 60_000),
+    (Call::Laboratory, "laboratory", 60_000),
+    (Call::Raw, "raw", 120_000),
+    (Call::Octaves, "octaves", 60_000),
+    (Call::Specimens, "specimens", 40_000),
+    (Call::Grade, "grade", 40_000),
+    (Call::Lift, "lift", 50_000),
+    (Call::Line, "line", 150_000),
+    (Call::Block, "block", 4_000),
+];
+
+/// Frames are made and sent so many at a time.
+const BATCH: usize = 500;
+
+/// What a comparison found: how many calls it made, or the first that differs.
+pub type Compared = Result<usize, String>;
+
+/// Compares all calls of the plan that are wanted, 1/`part` of their number.
+pub fn all(door: &mut Door, wanted: &[String], part: usize) -> Compared {
+    let mut compared = 0;
+    for (call, name, count) in PLAN {
+        if !wanted.is_empty() && !wanted.iter().any(|want| want == name) {
+            continue;
+        }
+        let mut seeded = Seeded::new(0x1b50_1a11 + call as u64);
+        compared += if call == Call::Block {
+            streams::compare(door, &mut seeded, count / part)?
+        } else {
+            every_length(door, &mut seeded, call)? + random(door, &mut seeded, call, count / part)?
+        };
+    }
+    Ok(compared)
+}
+
+/// Every length of values, of marks and of outputs from 0 to 50.
+fn every_length(door: &mut Door, seeded: &mut Seeded, call: Call) -> Compared {
+    let mut frames = Vec::new();
+    for length in (0..=50).map(Some) {
+        for lengths in [
+            Lengths { values: length, ..Lengths::default() },
+            Lengths { marks: length, ..Lengths::default() },
+            Lengths { out: length, ..Lengths::default() },
+            Lengths { values: length, marks: length, out: length },
+        ] {
+            frames.extend((0..6).map(|_| frame(seeded, call, lengths)));
+        }
+    }
+    same(door, frames)
+}
+
+fn random(door: &mut Door, seeded: &mut Seeded, call: Call, count: usize) -> Compared {
+    let mut compared = 0;
+    while compared < count {
+        let size = BATCH.min(count - compared);
+        let mut next = || {
+            let lengths = Lengths::any(seeded);
+            frame(seeded, call, lengths)
+        };
+        let frames = (0..size).map(|_| next()).collect();
+        compared += same(door, frames)?;
+    }
+    Ok(compared)
+}
+
+/// Whether door and plain implementation answer and leave the same.
+pub fn same(door: &mut Door, frames: Vec<Frame>) -> Compared {
+    let mut proved = frames.clone();
+    let mut plain = frames.clone();
+    let mut by_plain = Vec::with_capacity(frames.len());
+    let by_proved = door.make(&mut proved, || {
+        by_plain.extend(plain.iter_mut().map(|frame| PLAIN.make(frame)));
+    });
+    for at in 0..frames.len() {
+        if by_proved[at] != by_plain[at] || proved[at] != plain[at] {
+            return Err(told(
+                &frames[at],
+                (by_proved[at], &proved[at]),
+                (by_plain[at], &plain[at]),
+            ));
+        }
+    }
+    Ok(frames.len())
+}
+
+/// A difference in words.
+fn told(asked: &Frame, proved: (u32, &Frame), plain: (u32, &Frame)) -> String {
+    let mut text = shown(asked);
+    writeln!(text, "  desk_c returns {}, plain returns {}", proved.0, plain.0).unwrap();
+    let places = asked.bytes().len();
+    for place in 0..places {
+        let (was, is, wanted) =
+            (asked.bytes()[place], proved.1.bytes()[place], plain.1.bytes()[place]);
+        if is != wanted {
+            writeln!(
+                text,
+                "  byte {place} ({}) was {was:#04x}, desk_c leaves {is:#04x}, plain {wanted:#04x}",
+                whereabouts(asked, place)
+            )
+            .unwrap();
+            break;
+        }
+    }
+    text
+}
+
+/// Where a byte of the memory stands.
+fn whereabouts(frame: &Frame, place: usize) -> String {
+    let sizes = sizes(frame.call);
+    for (which, (Part { start, length }, size)) in frame.parts.iter().zip(sizes).enumerate() {
+        if (*start..start + length * size).contains(&place) {
+            return format!("array {which}, element {}", (place - start) / size);
+        }
+    }
+    "in no array".into()
+}
+
+/// The sizes of the elements of a call's arrays.
+fn sizes(call: Call) -> [usize; 3] {
+    match call {
+        Call::RateReadings | Call::Specimens | Call::Grade => [1, 4, 4],
+        Call::Lift => [4, 2, 4],
+        Call::Line | Call::Block => [1, 1, 8],
+        _ => [4, 4, 4],
+    }
+}
+
+/// A frame's call with all that it is given.
+pub fn shown(frame: &Frame) -> String {
+    let mut text = format!("{:?} of numbers {:?}", frame.call, frame.numbers);
+    for (which, size) in sizes(frame.call).into_iter().enumerate() {
+        let contents = match (size, frame.call) {
+            (1, Call::Line | Call::Block) => {
+                format!("{:?}", String::from_utf8_lossy(frame.array::<u8>(which)))
+            }
+            (1, _) => format!("{:?}", frame.array::<u8>(which)),
+            (2, _) => format!("{} places", frame.parts[which].length),
+            (8, _) => format!("{} places", frame.parts[which].length),
+            _ => format!("{:?}", frame.array::<i32>(which)),
+        };
+        write!(text, ", array {which}: {contents}").unwrap();
+    }
+    text.push('\n');
+    text
+}
