@@ -177,7 +177,7 @@ def _library():
     for place in places:
         if place.is_file():
             return ctypes.CDLL(str(place))
-    raise OSError(f"no libimbrolt.so: {__doc__.split('The library is')[1].strip()}")
+    raise OSError("no libimbrolt.so: the head of imbrolt.py says how to make it")
 
 
 def _declared(library):

@@ -9,4 +9,3 @@ pub mod Amounts
 pub mod Between
 pub mod Times
 pub mod Bounds
-pub mod Pencil

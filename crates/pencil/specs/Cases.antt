@@ -1,20 +1,23 @@
 -- Document 01, "Pencil checks": the cases marked P, as one table over the definitions. Each row is a claim that is computed.
 use mathlib.Core.Bool.{Bool, true, false, _&&_}
-use mathlib.Core.List.{List, [], _∷_}
+use mathlib.Core.List.{List, [], _∷_, map}
 use mathlib.Core.Path.{_≡_}
 use Prim.Native.Nat.{ℕ, zero, suc, _+_, _*_, _-_}
 use lib.Dec.{eqb}
 use lib.IntN.{ℤ, pos, negsuc, negℤ, _+ℤ_, _-ℤ_, _*ℤ_}
 use lib.ListN.{getD, length}
 use Rattle.quantity.specs.Quantities.{halfUp}
+use Rattle.quantity.specs.declared.quantities.BandSet.{BandSet}
 use Rattle.energy.specs.Corrections.{c, k}
 use Rattle.rating.specs.declared.kinds.Kind.{Kind}
 use Rattle.rating.specs.declared.kinds.Kind.the-variants.{A3, A1, I3, I1}
-use Rattle.rating.specs.Kinds.{airborne, bandsOf, referenceOf}
+use Rattle.rating.specs.Kinds.{airborne, Ctr}
 use Rattle.rating.specs.Curve.{total, ratingOf, shiftsOf}
-use Rattle.rating.specs.Sheets.{firstBy, secondBy}
-use Rattle.rating.specs.Terms.{airborneTerm, impactTerm}
-use Rattle.rating.specs.Kinds.{C, Ctr}
+use Rattle.rating.specs.Sheets.{firstBy, decibels}
+use Rattle.rating.specs.Terms.{airborneTerm}
+use Rattle.lift.specs.Reach.{liftList}
+use Rattle.rooms.specs.declared.covers.Cover.the-variants.{Improvement}
+use Rattle.rooms.specs.Covers.{coverOf}
 
 -- bands from the lowest, in tenths
 abbrev pub Bands : Type 0
@@ -22,6 +25,10 @@ Bands = List ℤ
 
 abbrev pub at : Bands → ℕ → ℤ
 at x i = getD x i (pos 0)
+
+-- the same as a band set with no marks
+abbrev pub setOf : Bands → BandSet
+setOf x = record { values = map (λ (z : ℤ). record { 0 = z }) x; marks = 0; len = length x }
 
 -- sixteen times 50.0
 abbrev pub fifties : Bands
@@ -38,6 +45,10 @@ floor = pos 670 ∷ pos 675 ∷ pos 680 ∷ pos 685 ∷ pos 690 ∷ pos 695 ∷ 
 -- the reference floor less 0 0 0 2 6 10 14 18 22 26 30 30 30 30 30 30 dB
 abbrev pub covered : Bands
 covered = pos 670 ∷ pos 675 ∷ pos 680 ∷ pos 665 ∷ pos 630 ∷ pos 595 ∷ pos 560 ∷ pos 525 ∷ pos 490 ∷ pos 455 ∷ pos 420 ∷ pos 420 ∷ pos 420 ∷ pos 420 ∷ pos 420 ∷ pos 420 ∷ []
+
+-- a cover's improvements of 0 0 0 2 6 10 14 18 22 26 30 30 30 30 30 30 dB
+abbrev pub improvements : Bands
+improvements = pos 0 ∷ pos 0 ∷ pos 0 ∷ pos 20 ∷ pos 60 ∷ pos 100 ∷ pos 140 ∷ pos 180 ∷ pos 220 ∷ pos 260 ∷ pos 300 ∷ pos 300 ∷ pos 300 ∷ pos 300 ∷ pos 300 ∷ pos 300 ∷ []
 
 -- x = K + 50 dB, with 500 Hz at 40.0, and with 400 and 500 Hz each 8 dB down
 abbrev pub even : Bands
@@ -59,6 +70,10 @@ pub data Case : Type 0 where
   rating : Kind → Bands → ℤ → Case
   -- the total of a set's deficits at a position
   totals : Kind → Bands → ℤ → ℕ → Case
+  -- the lift list of a set at a target
+  lists : Kind → Bands → ℤ → List ℕ → Case
+  -- a cover's improvement rating and term, of its improvements
+  improves : Bands → ℤ → ℤ → Case
   -- c(d), and k(T)
   background : ℕ → ℕ → Case
   time : ℕ → ℤ → Case
@@ -69,6 +84,8 @@ Claim (rates k x r t s) = (ratingOf k (at x) ≡ r) × (firstBy (airborne k) k (
 Claim (second k x t) = halfUp (airborneTerm k (at x) (Ctr k)) ≡ t
 Claim (rating k x r) = ratingOf k (at x) ≡ r
 Claim (totals k x p t) = total k (at x) p ≡ t
+Claim (lists k x t ms) = liftList k (at x) t ≡ ms
+Claim (improves x r t) = coverOf (setOf x) ≡ Improvement (decibels r) (decibels t) false
 Claim (background d n) = c d ≡ n
 Claim (time t z) = k t ≡ z
 
@@ -84,14 +101,19 @@ table =
     rates A1 octaves (pos 42) (negℤ (pos 2)) 0 ∷
     second A1 octaves (negℤ (pos 6)) ∷
     rates I3 floor (pos 78) (negℤ (pos 10)) 13 ∷
-    -- K + 50 dB rates 52, with a total of exactly 320
+    -- K + 50 dB rates 52, with a total of exactly 320; target 53 lists nothing
     rating A3 even (pos 52) ∷
     totals A3 even (pos 52) 320 ∷
-    -- the two variants
+    lists A3 even (pos 53) [] ∷
+    -- with 500 Hz at 40.0; target 52 lists 128 alone
     rating A3 dipped (pos 51) ∷
+    lists A3 dipped (pos 52) (128 ∷ []) ∷
+    -- with 400 and 500 Hz each 8 dB down; target 52 lists 192 alone
     rating A3 twice-dipped (pos 51) ∷
-    -- the covered floor
+    lists A3 twice-dipped (pos 52) (192 ∷ []) ∷
+    -- the covered floor, and the cover
     rating I3 covered (pos 59) ∷
+    improves improvements (pos 19) (negℤ (pos 10)) ∷
     -- corrections
     background 60 13 ∷
     background 61 12 ∷

@@ -5,7 +5,7 @@ use crate::frame::{Call, Frame, Part};
 use crate::inputs::{frame, Lengths};
 use crate::seeded::Seeded;
 use crate::streams;
-use std::fmt::Write;
+use std::fmt::{self, Write};
 
 /// The calls that are compared, and how many frames or streams of each.
 pub const PLAN: [(Call, &str, usize); 13] = [
@@ -27,10 +27,11 @@ pub const PLAN: [(Call, &str, usize); 13] = [
 /// Frames are made and sent so many at a time.
 const BATCH: usize = 500;
 
-/// What a comparison found: how many calls it made, or the first that differs.
+/// What a comparison found: how many inputs it compared, or the first that differs.
 pub type Compared = Result<usize, String>;
 
-/// Compares all calls of the plan that are wanted, 1/`part` of their number.
+/// Compares all calls of the plan that are wanted, 1/`part` of their number; says of each call how
+/// often it returned which number.
 pub fn all(door: &mut Door, wanted: &[String], part: usize) -> Compared {
     let mut compared = 0;
     for (call, name, count) in PLAN {
@@ -38,17 +39,51 @@ pub fn all(door: &mut Door, wanted: &[String], part: usize) -> Compared {
             continue;
         }
         let mut seeded = Seeded::new(0x1b50_1a11 + call as u64);
-        compared += if call == Call::Block {
-            streams::compare(door, &mut seeded, count / part)?
-        } else {
-            every_length(door, &mut seeded, call)? + random(door, &mut seeded, call, count / part)?
-        };
+        if call == Call::Block {
+            let streams = streams::compare(door, &mut seeded, count / part)?;
+            println!("  {name}: {streams} streams");
+            compared += streams;
+            continue;
+        }
+        let mut tally = every_length(door, &mut seeded, call)?;
+        tally.add(&random(door, &mut seeded, call, count / part)?);
+        println!("  {name}: {tally}");
+        compared += tally.total();
     }
     Ok(compared)
 }
 
+/// How often calls returned 0 and each refusal.
+pub struct Tally([usize; 13]);
+
+impl Tally {
+    fn of(returned: &[u32]) -> Tally {
+        let mut tally = Tally([0; 13]);
+        returned.iter().for_each(|&number| tally.0[number as usize] += 1);
+        tally
+    }
+
+    fn add(&mut self, other: &Tally) {
+        self.0.iter_mut().zip(other.0).for_each(|(count, more)| *count += more);
+    }
+
+    fn total(&self) -> usize {
+        self.0.iter().sum()
+    }
+}
+
+impl fmt::Display for Tally {
+    fn fmt(&self, to: &mut fmt::Formatter<'_>) -> fmt::Result {
+        write!(to, "{} calls, {} answered", self.total(), self.0[0])?;
+        for (number, count) in self.0.iter().enumerate().skip(1).filter(|(_, &count)| count > 0) {
+            write!(to, ", {count} refused with {number}")?;
+        }
+        Ok(())
+    }
+}
+
 /// Every length of values, of marks and of outputs from 0 to 50.
-fn every_length(door: &mut Door, seeded: &mut Seeded, call: Call) -> Compared {
+fn every_length(door: &mut Door, seeded: &mut Seeded, call: Call) -> Result<Tally, String> {
     let mut frames = Vec::new();
     for length in (0..=50).map(Some) {
         for lengths in [
@@ -63,22 +98,22 @@ fn every_length(door: &mut Door, seeded: &mut Seeded, call: Call) -> Compared {
     same(door, frames)
 }
 
-fn random(door: &mut Door, seeded: &mut Seeded, call: Call, count: usize) -> Compared {
-    let mut compared = 0;
-    while compared < count {
-        let size = BATCH.min(count - compared);
+fn random(door: &mut Door, seeded: &mut Seeded, call: Call, count: usize) -> Result<Tally, String> {
+    let mut tally = Tally::of(&[]);
+    while tally.total() < count {
+        let size = BATCH.min(count - tally.total());
         let mut next = || {
             let lengths = Lengths::any(seeded);
             frame(seeded, call, lengths)
         };
         let frames = (0..size).map(|_| next()).collect();
-        compared += same(door, frames)?;
+        tally.add(&same(door, frames)?);
     }
-    Ok(compared)
+    Ok(tally)
 }
 
 /// Whether door and plain implementation answer and leave the same.
-pub fn same(door: &mut Door, frames: Vec<Frame>) -> Compared {
+pub fn same(door: &mut Door, frames: Vec<Frame>) -> Result<Tally, String> {
     let mut proved = frames.clone();
     let mut plain = frames.clone();
     let mut by_plain = Vec::with_capacity(frames.len());
@@ -94,7 +129,7 @@ pub fn same(door: &mut Door, frames: Vec<Frame>) -> Compared {
             ));
         }
     }
-    Ok(frames.len())
+    Ok(Tally::of(&by_plain))
 }
 
 /// A difference in words.

@@ -75,7 +75,7 @@ fn answered_lines(door: &mut Door) -> Result<(), String> {
     let mut asked = Vec::new();
     stdin().read_to_end(&mut asked).expect("standard input can be read");
     let seeded = &mut Seeded::new(0x11ae5);
-    let answers = streams::Run { door, seeded, calls: 0 }.answers(&asked)?;
+    let answers = streams::Run { door, seeded }.answers(&asked)?;
     stdout().write_all(&answers).expect("standard output can be written");
     Ok(())
 }

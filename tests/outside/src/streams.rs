@@ -11,14 +11,12 @@ const LONGEST_ANSWER: usize = 64;
 /// No request line is longer.
 const LONGEST_REQUEST: usize = 512;
 
-/// Compares so many streams; counts the calls.
+/// Compares so many streams, each by as many calls as it takes; counts the streams.
 pub fn compare(door: &mut Door, seeded: &mut Seeded, count: usize) -> Compared {
-    let mut calls = refused(door, seeded)?;
+    let small = refused(door, seeded)?;
     for _ in 0..count {
         let input = stream(seeded);
-        let mut run = Run { door, seeded, calls: 0 };
-        let output = run.answers(&input)?;
-        calls += run.calls;
+        let output = Run { door, seeded }.answers(&input)?;
         if output != answers_line_by_line(&input) {
             return Err(format!(
                 "block: the answers to the stream {:?} are {:?}\n",
@@ -27,24 +25,23 @@ pub fn compare(door: &mut Door, seeded: &mut Seeded, count: usize) -> Compared {
             ));
         }
     }
-    Ok(calls)
+    Ok(small + count)
 }
 
 /// Fewer than three places for the progress: 10, and nothing changes.
 fn refused(door: &mut Door, seeded: &mut Seeded) -> Compared {
-    let mut calls = 0;
+    const TIMES: usize = 50;
     for places in 0..3 {
-        for _ in 0..50 {
+        for _ in 0..TIMES {
             let input = stream(seeded);
             let frame = block_frame(seeded, &input, false, true, 100, places);
             let mut made = frame.clone();
             if door.make_one(&mut made) != 10 || made != frame {
                 return Err(shown(&frame));
             }
-            calls += 1;
         }
     }
-    Ok(calls)
+    Ok(3 * TIMES)
 }
 
 /// The lines of a stream; a last piece may lack its line feed.
@@ -94,13 +91,12 @@ struct Step {
 pub struct Run<'a> {
     pub door: &'a mut Door,
     pub seeded: &'a mut Seeded,
-    pub calls: usize,
 }
 
 impl Run<'_> {
     /// The answers to a whole stream, which is handed over in pieces of any size.
     pub fn answers(&mut self, stream: &[u8]) -> Result<Vec<u8>, String> {
-        let most = self.seeded.pick(&[1, 3, 40, 200, 600, 2000, 70_000]);
+        let most = self.seeded.pick(&[3, 40, 200, 600, 2000, 70_000]);
         let (mut from, mut to) = (0, 0);
         let mut skipping = false;
         let mut output = Vec::new();
@@ -142,7 +138,6 @@ impl Run<'_> {
         last: bool,
         places: usize,
     ) -> Result<Step, String> {
-        self.calls += 1;
         let frame = block_frame(self.seeded, input, skipping, last, places, 3);
         let mut made = frame.clone();
         let returned = self.door.make_one(&mut made);

@@ -3,8 +3,8 @@
 //! Each answers 0 or a refusal's number. Answers go to the lent slices from their first place;
 //! a refusal changes none of them, and neither do places past the answer change.
 
-use crate::intake::{self, ranged};
-use crate::refusal::{Answered, BAND_COUNT, NOT_SPECIMENS, OUTPUT_TOO_SMALL};
+use crate::intake::{self, all_in_range};
+use crate::refusal::{Answered, BAND_COUNT, BAND_RANGE, NOT_SPECIMENS, OUTPUT_TOO_SMALL};
 use crate::{lift as lifts, line as lines, rating, rooms};
 
 /// Writes an answer of N numbers: 0, or 10 where the output is too small; or passes a refusal on.
@@ -24,11 +24,16 @@ fn set(bands: usize, values: &[i32]) -> Answered<[i32; 16]> {
     if values.len() != bands {
         return Err(BAND_COUNT);
     }
-    let mut accepted = [0; 16];
-    for (place, &value) in accepted.iter_mut().zip(values) {
-        *place = ranged(value)?;
+    let accepted = if let Some(sixteen) = values.first_chunk::<16>() {
+        *sixteen
+    } else {
+        core::array::from_fn(|band| values.get(band).copied().unwrap_or(0))
+    };
+    if all_in_range(&accepted) {
+        Ok(accepted)
+    } else {
+        Err(BAND_RANGE)
     }
-    Ok(accepted)
 }
 
 /// Whether any of the first bands has a limit mark, as the last number of an answer.
@@ -142,7 +147,12 @@ pub fn grade(side: u32, marks: &[u8], values: &[f32], out: &mut [i32]) -> u32 {
 
 /// Lift list: the masks to the list, the count to `out`.
 pub fn lift(
-    kind: u32, values: &[i32], _marks: u32, target: i32, list: &mut [u16], out: &mut [i32],
+    kind: u32,
+    values: &[i32],
+    _marks: u32,
+    target: i32,
+    list: &mut [u16],
+    out: &mut [i32],
 ) -> u32 {
     // Where there is no place for the count, the list may not change either.
     let room = if out.is_empty() { &mut [] } else { list };
@@ -160,9 +170,7 @@ pub fn line(line: &[u8], out: &mut [u8], at: usize, wrote: &mut [u64]) -> u32 {
 }
 
 /// Block call: bytes used, bytes written and the skipping flag to `progress`.
-pub fn block(
-    input: &[u8], skipping: u32, last: u32, out: &mut [u8], progress: &mut [u64],
-) -> u32 {
+pub fn block(input: &[u8], skipping: u32, last: u32, out: &mut [u8], progress: &mut [u64]) -> u32 {
     if progress.len() < 3 {
         return OUTPUT_TOO_SMALL;
     }

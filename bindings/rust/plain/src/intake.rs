@@ -16,9 +16,19 @@ pub fn in_range(tenths: i32) -> bool {
     tenths.wrapping_sub(LEAST) as u32 <= (GREATEST - LEAST) as u32
 }
 
+/// Whether all of sixteen are; without a branch for each, several at once.
+#[inline(always)]
+pub fn all_in_range(values: &[i32; 16]) -> bool {
+    values.iter().fold(true, |all, &value| all & in_range(value))
+}
+
 /// Refusal 4 for a band value out of range.
 pub fn ranged(tenths: i32) -> Answered<i32> {
-    if in_range(tenths) { Ok(tenths) } else { Err(BAND_RANGE) }
+    if in_range(tenths) {
+        Ok(tenths)
+    } else {
+        Err(BAND_RANGE)
+    }
 }
 
 /// The whole number of 1/`parts` nearest the float's exact value, a tie to the greater; refusal 2
@@ -53,7 +63,11 @@ pub fn tenths(value: f32) -> Answered<i32> {
 /// A reverberation time's hundredths: 2, then 7.
 pub fn hundredths(seconds: f32) -> Answered<i32> {
     let hundredths = nearest(seconds, 100)?;
-    if (10..=2000).contains(&hundredths) { Ok(hundredths) } else { Err(TIME_RANGE) }
+    if (10..=2000).contains(&hundredths) {
+        Ok(hundredths)
+    } else {
+        Err(TIME_RANGE)
+    }
 }
 
 /// A reading's tenths and whether it is a limit value: 3, 2, 4.

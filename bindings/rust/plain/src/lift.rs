@@ -20,7 +20,10 @@ pub fn lift(kind: u32, values: &[i32; 16], target: i32, list: &mut [u16]) -> Ans
 }
 
 fn listed<const N: usize>(
-    kind: &Kind<N>, values: &[i32; N], target: i32, list: &mut [u16],
+    kind: &Kind<N>,
+    values: &[i32; N],
+    target: i32,
+    list: &mut [u16],
 ) -> Answered<usize> {
     if !(-100..=200).contains(&target) {
         return Err(TARGET_RANGE);

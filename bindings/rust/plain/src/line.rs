@@ -1,9 +1,10 @@
 //! Request lines, answer lines and blocks of lines.
 
-use crate::intake::in_range;
+use crate::intake::{all_in_range, in_range};
 use crate::rating::{bands, sheet};
-use crate::refusal::{Answered, BAND_COUNT, BAND_RANGE, NOT_A_REQUEST, OUTPUT_TOO_SMALL,
-    READING_MISSING};
+use crate::refusal::{
+    Answered, BAND_COUNT, BAND_RANGE, NOT_A_REQUEST, OUTPUT_TOO_SMALL, READING_MISSING,
+};
 
 /// The longest request line, with its line feed.
 const LONGEST: usize = 512;
@@ -16,7 +17,7 @@ struct Request {
     kind: u32,
     /// Where the key's tab stands.
     key_end: usize,
-    /// The number of bands; the first sixteen are kept where they are no more.
+    /// The number of bands; they are kept where they are no more than sixteen, 0 past them.
     count: usize,
     values: [i32; 16],
     limit: bool,
@@ -111,10 +112,12 @@ fn accepted(request: &Request) -> Answered<()> {
     if request.count != bands {
         return Err(BAND_COUNT);
     }
-    match request.values[..bands].iter().find(|&&value| !in_range(value)) {
-        None => Ok(()),
+    if all_in_range(&request.values) {
+        return Ok(());
+    }
+    match request.values.iter().find(|&&value| !in_range(value)) {
         Some(&MISSING) => Err(READING_MISSING),
-        Some(_) => Err(BAND_RANGE),
+        _ => Err(BAND_RANGE),
     }
 }
 

@@ -74,7 +74,11 @@ impl<const N: usize> Kind<N> {
     /// A value turned so that more is better.
     #[inline(always)]
     pub fn turned(&self, value: i32) -> i32 {
-        if self.airborne { value } else { -value }
+        if self.airborne {
+            value
+        } else {
+            -value
+        }
     }
 
     /// What each turned value has above the reference curve at position 0.
@@ -108,12 +112,10 @@ impl<const N: usize> Kind<N> {
         let all: i32 = surplus.iter().sum();
         let mut position = (self.limit + all).div_euclid(10 * N as i32);
         loop {
-            let deficits = surplus.map(|above| (10 * position - above).max(0));
-            let total: i32 = deficits.iter().sum();
+            let (total, short) = deficits(&surplus, 10 * position);
             if total <= self.limit {
                 return position;
             }
-            let short: u32 = deficits.iter().map(|&deficit| u32::from(deficit > 0)).sum();
             position -= ((total - self.limit) as u32).div_ceil(10 * short) as i32;
         }
     }
@@ -154,6 +156,21 @@ impl<const N: usize> Kind<N> {
             shifts: self.start(&turned) - position,
         }
     }
+}
+
+/// The total of the deficits below a curve, and how many bands have one.
+///
+/// On a slice, so that the loop is kept and done several bands at once.
+#[inline(never)]
+fn deficits(surplus: &[i32], curve: i32) -> (i32, u32) {
+    let mut total = 0;
+    let mut short = 0;
+    for above in surplus {
+        let deficit = (curve - above).max(0);
+        total += deficit;
+        short += u32::from(deficit > 0);
+    }
+    (total, short)
 }
 
 /// A kind's number of bands; refusal 1 for a number that is no kind.

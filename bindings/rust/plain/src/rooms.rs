@@ -36,7 +36,11 @@ pub fn raw(source: f32, receiving: f32, background: f32, time: f32) -> Answered<
     let time = hundredths(time)?;
     let (corrected, limit) = field_rule(receiving, background);
     let difference = source - corrected + energy::reverberation(time);
-    if in_range(difference) { Ok((difference, limit)) } else { Err(DERIVED_RANGE) }
+    if in_range(difference) {
+        Ok((difference, limit))
+    } else {
+        Err(DERIVED_RANGE)
+    }
 }
 
 /// Octaves of sixteen accepted thirds; the last is not used.

@@ -1,0 +1,53 @@
+-- The count of shifts of every rating is at most 500, by the bound in its definition, so it fits an answer. Assumes nothing.
+use mathlib.Core.Path.{_≡_, refl, sym, _∙_, ap, subst}
+use mathlib.Core.Bool.{Bool, true, false, cond}
+use mathlib.Core.List.{List}
+use Prim.Native.Nat.{ℕ, zero, suc, _+_, _≤_}
+use native.Mathlib.Omega.{arith}
+use lib.Dec.{eqb}
+use lib.IntN.{ℤ}
+use Rattle.quantity.specs.Quantities.{bandOf}
+use Rattle.quantity.specs.declared.quantities.BandSet.{BandSet}
+use Rattle.quantity.specs.declared.quantities.Reading.{Reading}
+use Rattle.quantity.specs.declared.refusals.Refusal.the-variants.{BandCount, BandRange}
+use Rattle.intake.specs.declared.lists.Outcome.{Outcome}
+use Rattle.intake.specs.declared.lists.Outcome.the-variants as outcome
+use Rattle.intake.specs.Lists.{listOf}
+use Rattle.rating.specs.declared.kinds.Kind.{Kind}
+use Rattle.rating.specs.declared.sheets.Rated.the-variants.{Rating, Refused}
+use Rattle.rating.specs.Kinds.{bandsOf}
+use Rattle.rating.specs.Bands.{accepted}
+use Rattle.rating.specs.Curve.{firstFrom, shiftsOf, within, shifted, startOf}
+use Rattle.rating.specs.Sheets.{asked, sheetOf, ratedOf}
+use Rattle.desk.specs.Calls.{ratedBy, readingsRated}
+use Rattle.desk_c.specs.Ratings.{Fitting}
+
+first-bound : (ok : ℕ → Bool) (tries s : ℕ) → firstFrom ok tries s ≤ s + tries
+unfolding firstFrom
+first-bound ok zero s = omega arith
+first-bound ok (suc tries) s = go (ok s) (first-bound ok tries (suc s))
+  where
+    go : (b : Bool) → firstFrom ok tries (suc s) ≤ suc s + tries → cond b s (firstFrom ok tries (suc s)) ≤ s + suc tries
+    go true h = omega arith
+    go false h = omega arith
+
+shifts-bound : (k : Kind) (x : ℕ → ℤ) → shiftsOf k x ≤ 500
+unfolding shiftsOf
+shifts-bound k x = first-bound (λ s. within k x (shifted k (startOf k x) s)) 500 0
+
+pub rated-fits : (k : Kind) (s : BandSet) → Fitting (ratedOf k s)
+unfolding ratedOf sheetOf
+rated-fits k s = go (eqb (s .len) (bandsOf k)) (accepted s (bandsOf k))
+  where
+    go : (a b : Bool) → Fitting (asked a (asked b (Rating (sheetOf k s)) (Refused BandRange)) (Refused BandCount))
+    go true true = shifts-bound k (bandOf s)
+    go true false = tt
+    go false b = tt
+
+pub readings-fit : (k : Kind) (readings : List Reading) (len : ℕ) → Fitting (readingsRated k readings len)
+unfolding readingsRated
+readings-fit k readings len = go (listOf readings len (bandsOf k) .set) (listOf readings len (bandsOf k) .outcome)
+  where
+    go : (s : BandSet) (o : Outcome) → Fitting (ratedBy k s o)
+    go s outcome.Accepted = rated-fits k s
+    go s (outcome.Refused r) = tt

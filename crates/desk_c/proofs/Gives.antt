@@ -1,0 +1,53 @@
+-- An answer given is the answer defined: what is returned and held follows an equation of answers. Then one law for each shape
+-- of answer. Assumes nothing.
+use mathlib.Core.Path.{_≡_, refl, sym, _∙_, ap, subst}
+use mathlib.Core.Bool.{Bool}
+use mathlib.Core.List.{List, [], _∷_}
+use Prim.Native.Nat.{ℕ, _≤_}
+use lib.IntN.{ℤ, pos}
+use lib.ListN.{length}
+use Rattle.quantity.specs.declared.quantities.Tenths.{Tenths}
+use Rattle.intake.specs.declared.singles.Taken.{Taken}
+use Rattle.intake.specs.declared.singles.Taken.the-variants as taken
+use Rattle.rating.specs.declared.kinds.Kind.{Kind}
+use Rattle.rating.specs.declared.sheets.Rated.{Rated}
+use Rattle.rating.specs.declared.sheets.Rated.the-variants as rated
+use Rattle.rating.specs.declared.sheets.Sheet.{Sheet}
+use Rattle.desk_c.specs.declared.kinds.Named.{Named}
+use Rattle.desk_c.specs.declared.kinds.Named.the-variants.{Is, Unknown}
+use Rattle.desk_c.specs.Answers.{Answer, returned, held, flag}
+use Rattle.desk_c.specs.Answers.Answer.{refused, numbers}
+use Rattle.desk_c.specs.Ratings.{takenAnswer, termValue, termFlag, sheetNumbers, ratedAnswer, byKind, Fitting}
+
+-- what a call leaves: its result and its lent array, for an answer
+abbrev pub Left : {A : Type 0} → Answer A → ℕ → List A → List A → Type 0
+Left a r before after = (r ≡ returned a (length before)) × (after ≡ held a before)
+
+pub given : {A : Type 0} (a b : Answer A) (r : ℕ) (before after : List A) → a ≡ b → Left a r before after → Left b r before after
+given a b r before after e l = subst (λ (x : Answer _). Left x r before after) e l
+
+pub refuses : {A : Type 0} (a : Answer A) (n : ℕ) (before : List A) → refused n ≡ a → Left a n before before
+refuses a n before e = given (refused n) a n before before e (refl, refl)
+
+-- a value with its mark
+pub taken-given : (t : Taken) (v : Tenths) (limit : Bool) (x y : ℤ) → t ≡ taken.Value v limit → x ≡ v .0 → y ≡ flag limit
+    → numbers (x ∷ y ∷ []) ≡ takenAnswer t
+taken-given t v limit x y e p q =
+    ap (λ (z : ℤ). numbers (z ∷ y ∷ [])) p ∙ ap (λ (z : ℤ). numbers (v .0 ∷ z ∷ [])) q ∙ ap takenAnswer (sym e)
+
+-- a sheet
+pub sheet-given : (t : Rated) (s : Sheet) (a b c d e f : ℤ) → t ≡ rated.Rating s → a ≡ s .rating .0 → b ≡ s .first .0 → c ≡ termValue (s .second)
+    → d ≡ termFlag (s .second) → e ≡ pos (s .shifts) → f ≡ flag (s .limit)
+    → numbers (a ∷ b ∷ c ∷ d ∷ e ∷ f ∷ []) ≡ ratedAnswer t
+sheet-given t s a b c d e f h i j k l m n =
+    ap numbers (cc) ∙ ap ratedAnswer (sym h)
+
+pub fitting : (t : Rated) (s : Sheet) → t ≡ rated.Rating s → Fitting t → s .shifts ≤ 500
+fitting t s e h = subst Fitting e h
+
+-- a kind's number that names none, or one
+pub by-none : (named : Named) (answer : Kind → Answer ℤ) → named ≡ Unknown → refused 1 ≡ byKind named answer
+by-none named answer e = ap (λ (n : Named). byKind n answer) (sym e)
+
+pub by-one : (named : Named) (answer : Kind → Answer ℤ) (k : Kind) → named ≡ Is k → answer k ≡ byKind named answer
+by-one named answer k e = ap (λ (n : Named). byKind n answer) (sym e)

@@ -1,0 +1,30 @@
+-- An answer for the C door: a refusal's number, or numbers for a lent array. What the call then returns, and what the array holds.
+use mathlib.Core.Bool.{Bool, true, false, cond}
+use mathlib.Core.List.{List, [], _∷_, _++_}
+use Prim.Native.Nat.{ℕ}
+use lib.Dec.{leb}
+use lib.IntN.{ℤ, pos}
+use lib.ListN.{length, drop}
+
+pub data Answer (A : Type 0) : Type 0 where
+  refused : ℕ → Answer A
+  numbers : List A → Answer A
+
+-- a list at the front of an array; "Places of an answer array past the answer keep their contents"
+abbrev pub front : {A : Type 0} → List A → List A → List A
+front t l = t ++ drop (length t) l
+
+-- what the call returns, with so many places lent: the refusal's number, 10 where the answer does not fit, else 0
+abbrev pub returned : {A : Type 0} → Answer A → ℕ → ℕ
+returned (refused n) places = n
+returned (numbers xs) places = cond (leb (length xs) places) 0 10
+
+-- what the lent array then holds
+abbrev pub held : {A : Type 0} → Answer A → List A → List A
+held (refused n) out = out
+held (numbers xs) out = cond (leb (length xs) (length out)) (front xs out) out
+
+-- a flag as a number
+abbrev pub flag : Bool → ℤ
+flag true = pos 1
+flag false = pos 0

@@ -1,0 +1,13 @@
+// The calls of `desk` for C, Rust and others, on numbers and slices of numbers (include/imbrolt.h).
+//
+// Each function returns 0 or the refusal's number. Its answer goes to a lent array, from the array's start; places past the
+// answer keep their contents, and on a refusal the whole array does. A lent array that is too small is refusal 10, tested
+// last. The promise of each says what it returns and what every lent array holds afterwards, for all inputs.
+mod given;
+mod kinds;
+mod lists;
+mod ratings;
+
+pub use ratings::imbrolt_rate;
+pub use ratings::imbrolt_rate_readings;
+pub use ratings::imbrolt_reading;

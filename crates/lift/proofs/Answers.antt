@@ -1,0 +1,172 @@
+-- The ways out of the call, by the tests that lead there, and what the numbers fetched for a kind give to the listing.
+-- Assumes nothing.
+use mathlib.Core.Path.{_≡_, refl, sym, _∙_, ap, subst}
+use mathlib.Core.Bool.{Bool, true, false}
+use mathlib.Core.List.{List}
+use Prim.Native.Nat.{ℕ, _+_, _-_, _≤_, _<_}
+use native.Mathlib.Nat.{le-of-lt}
+use borrow.Author.Tests.{le-leb, lt-leb}
+use lib.Dec.{T, eqb}
+use lib.IntN.{ℤ, pos, negsuc}
+use lib.ListN.{length}
+use lib.Signed.{leZ, ltZ, _≤ℤ_}
+use Rattle.laws.specs.Parts.{P, N}
+use Rattle.laws.proofs.Ints.{lt-yes, lt-no, le-made, le-read}
+use Rattle.quantity.specs.Quantities.{bandOf}
+use Rattle.quantity.specs.declared.quantities.BandSet.{BandSet}
+use Rattle.quantity.specs.declared.refusals.Refusal.{Refusal}
+use Rattle.quantity.specs.declared.refusals.Refusal.the-variants.{BandCount, BandRange, NotBetter, TargetRange, NoRoom}
+use Rattle.rating.specs.declared.kinds.Kind.{Kind}
+use Rattle.rating.specs.declared.kinds.Numbers.{Numbers}
+use Rattle.rating.specs.declared.sheets.Sheet.{Sheet}
+use Rattle.rating.specs.declared.sheets.Rated.{Rated}
+use Rattle.rating.specs.declared.sheets.Rated.the-variants.{Rating, Refused as Unrated}
+use Rattle.rating.specs.Kinds.{airborne, bandsOf, limitOf}
+use Rattle.rating.specs.Bands.{accepted}
+use Rattle.rating.specs.Curve.{ratingOf}
+use Rattle.rating.specs.Levels.{at, levelBy, entriesOf, numbersOf, ratingAt, Entries}
+use Rattle.rating.specs.Sheets.{asked, sheetOf, ratedOf}
+use Rattle.rating.proofs.Searched.{count-most}
+use Rattle.rating.proofs.Facts.{count-of, entries-fit}
+use Rattle.lift.specs.declared.lists.Lifted.{Lifted}
+use Rattle.lift.specs.declared.lists.Lifted.the-variants.{Count, Refused}
+use Rattle.lift.specs.Reach.{betterBy, liftList}
+use Rattle.lift.specs.Calls.{inTargets, placesOf, countOf, answerBy, answerOf, front, RatedIs, LiftIs}
+use Rattle.lift.specs.Gains.{byGains, Countable, Gained}
+use Rattle.lift.proofs.Tests.{is-true, is-false}
+use Rattle.lift.proofs.Listing.{can-count, position-small, above-limit, need-small, gains-small, list-is, list-room}
+
+-- ---- the range of targets
+le-test : (x y : ℤ) → P x + N y ≤ P y + N x → leZ x y ≡ true
+le-test x y h = let r : x ≤ℤ y = le-made h in is-true (leZ x y) (r .le)
+
+lt-test : (x y : ℤ) → P y + N x < P x + N y → leZ x y ≡ false
+lt-test x y h = is-false (leZ x y) (λ t. let r : x ≤ℤ y = record { le = t } in native.Mathlib.Nat.not-le-of-lt h (le-read r))
+
+pub target-low : (t : ℤ) → ltZ t (negsuc 99) ≡ true → false ≡ inTargets t
+unfolding inTargets
+target-low t e = rw (lt-test (negsuc 99) t (lt-yes t (negsuc 99) e))
+
+pub target-high : (t : ℤ) → ltZ t (negsuc 99) ≡ false → ltZ (pos 200) t ≡ true → false ≡ inTargets t
+unfolding inTargets
+target-high t e d = rw (le-test (negsuc 99) t (lt-no t (negsuc 99) e), lt-test t (pos 200) (lt-yes (pos 200) t d))
+
+pub target-in : (t : ℤ) → ltZ t (negsuc 99) ≡ false → ltZ (pos 200) t ≡ false → true ≡ inTargets t
+unfolding inTargets
+target-in t e d = rw (le-test (negsuc 99) t (lt-no t (negsuc 99) e), le-test t (pos 200) (lt-no (pos 200) t d))
+
+-- ---- better, where the sign is known
+pub better-up : (sign : Bool) (t r : ℤ) → sign ≡ true → ltZ r t ≡ betterBy sign t r
+better-up true t r e = refl
+better-up false t r e = absurd (subst T (sym e) tt)
+
+pub better-down : (sign : Bool) (t r : ℤ) → sign ≡ false → ltZ t r ≡ betterBy sign t r
+better-down true t r e = absurd (subst T e tt)
+better-down false t r e = refl
+
+-- ---- the ways out once the set is rated
+module _ (k : Kind) (s : BandSet) (t r : ℤ) (before : List ℕ) where
+  abbrev x : ℕ → ℤ
+  x = bandOf s
+
+  abbrev room : ℕ
+  room = length before
+
+  pub out-of-targets : inTargets t ≡ false → RatedIs k s t r before (Refused TargetRange) before
+  unfolding countOf
+  out-of-targets e = record { answer = rw e; buffer = refl }
+
+  pub not-better : inTargets t ≡ true → betterBy (airborne k) t r ≡ false → RatedIs k s t r before (Refused NotBetter) before
+  unfolding countOf
+  not-better e d = record { answer = rw (e, d); buffer = refl }
+
+  pub no-room : inTargets t ≡ true → betterBy (airborne k) t r ≡ true → room < placesOf k → RatedIs k s t r before (Refused NoRoom) before
+  unfolding countOf
+  no-room e d h = record { answer = rw (e, d, lt-leb (placesOf k) room h); buffer = refl }
+
+  pub all-listed : inTargets t ≡ true → betterBy (airborne k) t r ≡ true → placesOf k ≤ room → (n : ℕ) (after : List ℕ)
+      → n ≡ length (liftList k x t) → after ≡ front (liftList k x t) before → RatedIs k s t r before (Count n) after
+  unfolding countOf
+  all-listed e d h n after c f = record { answer = rw (e, d, le-leb (placesOf k) room h, c); buffer = f }
+
+-- ---- the rating's answer
+rated-as : (k : Kind) (s : BandSet) (sheet : Sheet) → Rating sheet ≡ ratedOf k s → (accepted s (bandsOf k) ≡ true) × (sheet ≡ sheetOf k s)
+unfolding ratedOf
+rated-as k s sheet e = go (eqb (s .len) (bandsOf k)) (accepted s (bandsOf k)) e
+  where
+    go : (a b : Bool) → Rating sheet ≡ asked a (asked b (Rating (sheetOf k s)) (Unrated BandRange)) (Unrated BandCount)
+        → (b ≡ true) × (sheet ≡ sheetOf k s)
+    go true true e = (refl, cc)
+    go true false e = (cc, cc)
+    go false b e = (cc, cc)
+
+pub rated-accepted : (k : Kind) (s : BandSet) (sheet : Sheet) → Rating sheet ≡ ratedOf k s → accepted s (bandsOf k) ≡ true
+rated-accepted k s sheet e = rated-as k s sheet e .0
+
+pub rated-rating : (k : Kind) (s : BandSet) (sheet : Sheet) → Rating sheet ≡ ratedOf k s → sheet .rating .0 ≡ ratingOf k (bandOf s)
+unfolding sheetOf
+rated-rating k s sheet e = ap (λ (h : Sheet). h .rating .0) (rated-as k s sheet e .1)
+
+pub from-rated : (k : Kind) (s : BandSet) (t : ℤ) (sheet : Sheet) (before : List ℕ) (r : Lifted) (after : List ℕ)
+    → Rating sheet ≡ ratedOf k s → RatedIs k s t (sheet .rating .0) before r after → LiftIs k s t before r after
+unfolding answerOf
+from-rated k s t sheet before r after e w =
+    record { answer = w .answer ∙ ap (λ (q : Rated). answerBy q k s t (length before)) e; buffer = w .buffer }
+
+pub from-refused : (k : Kind) (s : BandSet) (t : ℤ) (refusal : Refusal) (before : List ℕ)
+    → Unrated refusal ≡ ratedOf k s → LiftIs k s t before (Refused refusal) before
+unfolding answerOf
+from-refused k s t refusal before e = record { answer = ap (λ (q : Rated). answerBy q k s t (length before)) e; buffer = refl }
+
+-- ---- the numbers fetched for the kind
+pub sign-is : (k : Kind) (n : Numbers) → n ≡ numbersOf k → n .airborne ≡ airborne k
+unfolding numbersOf
+sign-is k n e = ap (λ (m : Numbers). m .airborne) e
+
+pub record Worked (k : Kind) (s : BandSet) (t : ℤ) (gains : List ℕ) (sum limit room : ℕ) : Type 0 where
+  pub over : limit ≤ sum
+  pub need : sum - limit < 1000000
+  pub small : (i : ℕ) → at gains i < 10000
+  pub list : byGains gains (sum - limit) ≡ liftList k (bandOf s) t
+  pub fits : length (byGains gains (sum - limit)) ≤ room
+
+module _ (k : Kind) (s : BandSet) (acc : accepted s (bandsOf k) ≡ true) (t : ℤ) (range : inTargets t ≡ true)
+    (good : betterBy (airborne k) t (ratingOf k (bandOf s)) ≡ true) (n : Numbers) (e : n ≡ numbersOf k) where
+  pub asks-count : Countable (n .airborne) t (n .origin)
+  unfolding numbersOf
+  asks-count = subst (λ (m : Numbers). Countable (m .airborne) t (m .origin)) (sym e) (can-count k s acc t range good)
+
+  pub asks-gains : (p : ℕ) → p ≡ levelBy (n .airborne) t (n .origin)
+      → (n .bands ≤ 16) × ((accepted s (n .bands) ≡ true) × (((i : ℕ) → i < 16 → Entries (n .airborne) (at (n .entries) i)) × (p < 500)))
+  unfolding numbersOf
+  asks-gains p d =
+      subst
+      (λ (m : Numbers). (m .bands ≤ 16) × ((accepted s (m .bands) ≡ true) × (((i : ℕ) → i < 16 → Entries (m .airborne) (at (m .entries) i)) × (p < 500))))
+      (sym e) (
+        count-most (count-of k),
+        (
+          acc,
+          (
+            entries-fit k,
+            subst (λ (v : ℕ). v < 500) (sym (d ∙ ap (λ (m : Numbers). levelBy (m .airborne) t (m .origin)) e)) (position-small k s acc t range good),
+          ),
+        ),
+      )
+
+  pub worked : (p room : ℕ) (gains : List ℕ) (sum : ℕ) → p ≡ levelBy (n .airborne) t (n .origin) → placesOf k ≤ room
+      → Gained (n .airborne) s (n .entries) (n .bands) p gains sum → Worked k s t gains sum (n .limit) room
+  unfolding numbersOf
+  worked p room gains sum d h g =
+      let at-p : p ≡ levelBy (airborne k) t (ratingAt k) = d ∙ ap (λ (m : Numbers). levelBy (m .airborne) t (m .origin)) e in
+      let w : Gained (airborne k) s (entriesOf k) (bandsOf k) (levelBy (airborne k) t (ratingAt k)) gains sum =
+      subst (λ (v : ℕ). Gained (airborne k) s (entriesOf k) (bandsOf k) v gains sum) at-p
+      (subst (λ (m : Numbers). Gained (m .airborne) s (m .entries) (m .bands) p gains sum) e g) in
+      let l : byGains gains (sum - limitOf k) ≡ liftList k (bandOf s) t = list-is k s acc t range good gains sum w in
+      subst (λ (m : Numbers). Worked k s t gains sum (m .limit) room) (sym e)
+      (record {
+        over = le-of-lt (above-limit k s acc t range good gains sum w);
+        need = need-small k s acc t range good gains sum w;
+        small = gains-small k s acc t range good gains sum w;
+        list = l;
+        fits = subst (λ (v : List ℕ). length v ≤ room) (sym l) (list-room k (bandOf s) t room h);
+      })

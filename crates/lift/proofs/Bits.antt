@@ -1,0 +1,108 @@
+-- Bits of a number by halving, and a number put together from its bits: two numbers below 2 ^ n with the same n bits are one,
+-- and any n bits are those of a number. Assumes nothing.
+use mathlib.Core.Path.{_≡_, refl, sym, _∙_, ap, ap₂, subst}
+use mathlib.Core.Bool.{Bool, true, false, not, _||_}
+use mathlib.Core.Logic.{_⊎_, inl, inr}
+use Prim.Native.Nat.{ℕ, zero, suc, _+_, _*_, _/_, _%_, _^_, _<_}
+use native.Mathlib.Nat.{le-refl, div-one, pow-succ', div-div-eq-div-mul}
+use native.Mathlib.Decide.{decLt}
+use native.Mathlib.Omega.{arith}
+use borrow.Author.Tests.{eq-eqb, ne-eqb, eqb-true, eqb-false}
+use lib.Dec.{T, eqb}
+use Rattle.laws.specs.Extremes.{one-if}
+use Rattle.rating.specs.Bands.{bit}
+
+-- the lowest bit, and a bit above it
+pub bit-low : (m : ℕ) → bit m 0 ≡ eqb (m % 2) 1
+bit-low m = ap (λ (n : ℕ). eqb (n % 2) 1) (div-one m)
+
+pub next-half : (m i : ℕ) → m / 2 ^ suc i ≡ m / 2 / 2 ^ i
+next-half m i = ap (λ (d : ℕ). m / d) (pow-succ' 2 i) ∙ sym (div-div-eq-div-mul m 2 (2 ^ i))
+
+bit-next : (m i : ℕ) → bit m (suc i) ≡ bit (m / 2) i
+bit-next m i = ap (λ (n : ℕ). eqb (n % 2) 1) (next-half m i)
+
+-- the number whose bits below n are those of f
+unfoldable pub pack : (ℕ → Bool) → ℕ → ℕ
+pack f zero = 0
+pack f (suc n) = one-if (f 0) + 2 * pack (λ i. f (suc i)) n
+
+odd : (b : Bool) (r : ℕ) → eqb ((one-if b + 2 * r) % 2) 1 ≡ b
+odd true r = eq-eqb ((1 + 2 * r) % 2) 1 (omega arith)
+odd false r = ne-eqb ((0 + 2 * r) % 2) 1 (λ e. omega arith)
+
+half : (b : Bool) (r : ℕ) → (one-if b + 2 * r) / 2 ≡ r
+half true r = omega arith
+half false r = omega arith
+
+pub pack-bit : (f : ℕ → Bool) (n i : ℕ) → i < n → bit (pack f n) i ≡ f i
+unfolding pack
+pack-bit f zero i h = absurd (omega arith)
+pack-bit f (suc n) zero h = bit-low (pack f (suc n)) ∙ odd (f 0) (pack (λ i. f (suc i)) n)
+pack-bit f (suc n) (suc i) h =
+    bit-next (pack f (suc n)) i
+    ∙ ap (λ (m : ℕ). bit m i) (half (f 0) (pack (λ i. f (suc i)) n))
+    ∙ pack-bit (λ i. f (suc i)) n i (omega arith)
+
+pack-same : (f g : ℕ → Bool) (n : ℕ) → ((i : ℕ) → i < n → f i ≡ g i) → pack f n ≡ pack g n
+unfolding pack
+pack-same f g zero h = refl
+pack-same f g (suc n) h =
+    ap₂ (λ (b : Bool) (r : ℕ). one-if b + 2 * r) (h 0 (omega arith))
+    (pack-same (λ i. f (suc i)) (λ i. g (suc i)) n (λ i p. h (suc i) (omega arith)))
+
+pub pack-below : (f : ℕ → Bool) (n : ℕ) → pack f n < 2 ^ n
+unfolding pack
+pack-below f zero = omega arith
+pack-below f (suc n) = go (f 0) (pack (λ i. f (suc i)) n) (pack-below (λ i. f (suc i)) n)
+  where
+    go : (b : Bool) (r : ℕ) → r < 2 ^ n → one-if b + 2 * r < 2 ^ suc n
+    go true r h = omega arith
+    go false r h = omega arith
+
+-- a number is put together from its own bits
+lowest : (m : ℕ) → one-if (eqb (m % 2) 1) ≡ m % 2
+lowest m = go (eqb (m % 2) 1) refl
+  where
+    go : (b : Bool) → eqb (m % 2) 1 ≡ b → one-if b ≡ m % 2
+    go true e = sym (eqb-true (m % 2) 1 e)
+    go false e = omega (arith, eqb-false (m % 2) 1 e)
+
+pub pack-of : (n m : ℕ) → m < 2 ^ n → pack (bit m) n ≡ m
+unfolding pack
+pack-of zero m h = omega arith
+pack-of (suc n) m h =
+    let low : one-if (bit m 0) ≡ m % 2 = ap one-if (bit-low m) ∙ lowest m in
+    let up : pack (λ i. bit m (suc i)) n ≡ m / 2 =
+    pack-same (λ i. bit m (suc i)) (bit (m / 2)) n (λ i p. bit-next m i) ∙ pack-of n (m / 2) (omega arith) in
+    omega arith
+
+pub same-bits : (n m p : ℕ) → m < 2 ^ n → p < 2 ^ n → ((i : ℕ) → i < n → bit m i ≡ bit p i) → m ≡ p
+same-bits n m p h k e = sym (pack-of n m h) ∙ pack-same (bit m) (bit p) n e ∙ pack-of n p k
+
+-- a place where g passes and f does not
+pub record Apart (f g : ℕ → Bool) (n : ℕ) : Type 0 where
+  pub place : ℕ
+  pub below : place < n
+  pub without : f place ≡ false
+  pub having : g place ≡ true
+
+-- where g passes wherever f does, the two are one below n, or some place is apart
+pub parted : (f g : ℕ → Bool) (n : ℕ) → ((i : ℕ) → i < n → T (not (f i) || g i)) → ((i : ℕ) → i < n → f i ≡ g i) ⊎ Apart f g n
+parted f g zero h = inl (λ i p. absurd (omega arith))
+parted f g (suc n) h = go (parted f g n (λ i p. h i (omega arith))) (f n) refl (g n) refl
+  where
+    last : f n ≡ g n → ((i : ℕ) → i < n → f i ≡ g i) → (i : ℕ) → i < suc n → f i ≡ g i
+    last e before i p = pick (decLt i n)
+      where
+        pick : Dec (i < n) → f i ≡ g i
+        pick (yes q) = before i q
+        pick (no q) = let s : n ≡ i = omega arith in subst (λ (j : ℕ). f j ≡ g j) s e
+
+    go : ((i : ℕ) → i < n → f i ≡ g i) ⊎ Apart f g n
+        → (a : Bool) → f n ≡ a → (b : Bool) → g n ≡ b → ((i : ℕ) → i < suc n → f i ≡ g i) ⊎ Apart f g (suc n)
+    go (inr q) a d b e = inr (record { place = q .place; below = omega (arith, q .below); without = q .without; having = q .having })
+    go (inl s) true d true e = inl (last (d ∙ sym e) s)
+    go (inl s) false d false e = inl (last (d ∙ sym e) s)
+    go (inl s) false d true e = inr (record { place = n; below = le-refl (suc n); without = d; having = e })
+    go (inl s) true d false e = absurd (subst T (ap₂ (λ (a b : Bool). not a || b) d e) (h n (le-refl (suc n))))

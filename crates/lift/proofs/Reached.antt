@@ -1,0 +1,167 @@
+-- Reaching by rating is the total of deficits at the target within the limit: the rating is the best position within it, and
+-- a less strict position is within it too. One proof over the kind. Assumes nothing.
+use mathlib.Core.Path.{_≡_, sym, _∙_, ap, ap₂, fun-ext}
+use mathlib.Core.Bool.{Bool, true, false, cond}
+use mathlib.Core.List.{List, [], _∷_}
+use Prim.Native.Nat.{ℕ, zero, suc, _+_, _*_, _≤_, _<_}
+use native.Mathlib.Nat.{le-trans, add-zero, suc-add, add-suc, not-suc-le-zero}
+use native.Mathlib.Omega.{arith}
+use lib.Dec.{T, leb, leb→le, le→leb}
+use lib.IntN.{ℤ, pos, _+ℤ_, _-ℤ_, _*ℤ_}
+use lib.ListN.{getD}
+use lib.Signed.{_≤ℤ_}
+use Rattle.laws.proofs.Ints.{plus, minus, apart, times-P, times-N, le-made, le-read}
+use Rattle.laws.proofs.Sums.{sum-same, sum-mono, sumℤ-same}
+use Rattle.quantity.specs.Quantities.{inRange, bandOf}
+use Rattle.quantity.specs.declared.quantities.Tenths.{Tenths}
+use Rattle.quantity.specs.declared.quantities.BandSet.{BandSet}
+use Rattle.rating.specs.declared.kinds.Kind.{Kind}
+use Rattle.rating.specs.Kinds.{airborne, bandsOf, limitOf, referenceOf}
+use Rattle.rating.specs.Bands.{accepted, bit}
+use Rattle.rating.specs.Curve.{deficitBy, deficit, total, within, stricterBy, IsPosition, startOf, startBy, shifted, firstFrom, shiftsOf, positionOf, takenOff, ratingOf}
+use Rattle.rating.proofs.Walks.{all-made}
+use Rattle.rating.proofs.Searched.{band-in, count-most}
+use Rattle.rating.proofs.Facts.{count-of}
+use Rattle.rating.proofs.Theorems.{position-best}
+use Rattle.lift.specs.Reach.{meetsBy, highest, lifted, reaches}
+use Rattle.lift.specs.Gains.{targetAt}
+use Rattle.lift.proofs.Tests.{one-test}
+use Rattle.lift.proofs.Counting.{best-in}
+
+-- ---- a less strict position has no greater deficits
+deficit-less : (sign : Bool) (p q K x : ℤ) → stricterBy sign p q → deficitBy sign q K x ≤ deficitBy sign p K x
+deficit-less true p q K x h =
+    let k : ℤ = pos 10 *ℤ K in
+    let a : ℤ = pos 10 *ℤ p in
+    let b : ℤ = pos 10 *ℤ q in
+    omega (
+      arith,
+      le-read h,
+      times-P 10 p,
+      times-N 10 p,
+      times-P 10 q,
+      times-N 10 q,
+      plus a k,
+      plus b k,
+      minus (a +ℤ k) x,
+      minus (b +ℤ k) x,
+      apart (a +ℤ k -ℤ x),
+      apart (b +ℤ k -ℤ x),
+    )
+deficit-less false p q K x h =
+    let k : ℤ = pos 10 *ℤ K in
+    let a : ℤ = pos 10 *ℤ p in
+    let b : ℤ = pos 10 *ℤ q in
+    omega (
+      arith,
+      le-read h,
+      times-P 10 p,
+      times-N 10 p,
+      times-P 10 q,
+      times-N 10 q,
+      minus x k,
+      minus (x -ℤ k) a,
+      minus (x -ℤ k) b,
+      apart (x -ℤ k -ℤ a),
+      apart (x -ℤ k -ℤ b),
+    )
+
+within-less : (k : Kind) (x : ℕ → ℤ) (p q : ℤ) → stricterBy (airborne k) p q → T (within k x p) → T (within k x q)
+unfolding within total deficit
+within-less k x p q h t =
+    le→leb (total k x q) (limitOf k)
+    (le-trans
+    (sum-mono (λ i. deficit k q (referenceOf k i) (x i)) (λ i. deficit k p (referenceOf k i) (x i)) (bandsOf k)
+    (λ i r. deficit-less (airborne k) p q (referenceOf k i) (x i) h))
+    (leb→le (total k x p) (limitOf k) t))
+
+-- ---- a rating meets a target, and its position is at least as strict as the target's
+meets-read : (sign : Bool) (target q off : ℤ) → T (meetsBy sign target (q -ℤ off)) → stricterBy sign q (target +ℤ off)
+meets-read true target q off t =
+    let h : target ≤ℤ (q -ℤ off) = record { le = t } in le-made (omega (arith, le-read h, minus q off, plus target off))
+meets-read false target q off t =
+    let h : (q -ℤ off) ≤ℤ target = record { le = t } in le-made (omega (arith, le-read h, minus q off, plus target off))
+
+meets-made : (sign : Bool) (target q off : ℤ) → stricterBy sign q (target +ℤ off) → T (meetsBy sign target (q -ℤ off))
+meets-made true target q off h =
+    let r : target ≤ℤ (q -ℤ off) = le-made (omega (arith, le-read h, minus q off, plus target off)) in r .le
+meets-made false target q off h =
+    let r : (q -ℤ off) ≤ℤ target = le-made (omega (arith, le-read h, minus q off, plus target off)) in r .le
+
+pub meets-is : (k : Kind) (s : BandSet) → accepted s (bandsOf k) ≡ true → (target : ℤ)
+    → meetsBy (airborne k) target (ratingOf k (bandOf s)) ≡ within k (bandOf s) (targetAt k target)
+unfolding ratingOf
+meets-is k s acc target =
+    let x : ℕ → ℤ = bandOf s in
+    let q : ℤ = positionOf k x in
+    let is : IsPosition k x q = position-best k s acc in
+    one-test (meetsBy (airborne k) target (q -ℤ takenOff k)) (within k x (targetAt k target))
+    (λ t. within-less k x q (targetAt k target) (meets-read (airborne k) target q (takenOff k) t) (is .holds))
+    (λ t. meets-made (airborne k) target q (takenOff k) (is .best (targetAt k target) t))
+
+-- ---- what lies past the bands does not matter
+module _ (k : Kind) (x y : ℕ → ℤ) (same : (i : ℕ) → i < bandsOf k → x i ≡ y i) where
+  pub total-same : (p : ℤ) → total k x p ≡ total k y p
+  unfolding total
+  total-same p =
+      sum-same (λ i. deficit k p (referenceOf k i) (x i)) (λ i. deficit k p (referenceOf k i) (y i)) (bandsOf k)
+      (λ i h. ap (deficit k p (referenceOf k i)) (same i h))
+
+  within-same : (p : ℤ) → within k x p ≡ within k y p
+  unfolding within
+  within-same p = ap (λ (t : ℕ). leb t (limitOf k)) (total-same p)
+
+  start-same : startOf k x ≡ startOf k y
+  unfolding startOf
+  start-same = ap (λ (z : ℤ). startBy (airborne k) z (10 * bandsOf k)) (sumℤ-same x y (bandsOf k) same)
+
+  pub rating-same : ratingOf k x ≡ ratingOf k y
+  unfolding ratingOf positionOf shiftsOf
+  rating-same =
+      ap₂ (λ (z : ℤ) (ok : ℤ → Bool). shifted k z (firstFrom (λ s. ok (shifted k z s)) 500 0) -ℤ takenOff k)
+      start-same (fun-ext within-same)
+
+-- ---- the band set with the bands of m lifted
+tabled : (ℕ → ℤ) → ℕ → ℕ → List Tenths
+tabled x zero i = []
+tabled x (suc n) i = record { 0 = x i } ∷ tabled x n (suc i)
+
+tabled-at : (x : ℕ → ℤ) (n j i : ℕ) → i < n → getD (tabled x n j) i (record { 0 = pos 0 }) .0 ≡ x (j + i)
+unfolding tabled
+tabled-at x zero j i h = absurd (not-suc-le-zero h)
+tabled-at x (suc n) j zero h = ap x (sym (add-zero j))
+tabled-at x (suc n) j (suc i) h = tabled-at x n (suc j) i (omega arith) ∙ ap x (suc-add j i ∙ sym (add-suc j i))
+
+module _ (k : Kind) (s : BandSet) (acc : accepted s (bandsOf k) ≡ true) (m : ℕ) where
+  abbrev y : ℕ → ℤ
+  y = lifted k (bandOf s) m
+
+  mended : BandSet
+  mended = record { values = tabled y 16 0; marks = s .marks; len = s .len }
+
+  mended-is : (i : ℕ) → i < bandsOf k → bandOf mended i ≡ y i
+  unfolding mended
+  mended-is i h = tabled-at y 16 0 i (omega (arith, count-most (count-of k))) ∙ ap y (none i)
+    where
+      none : (i : ℕ) → 0 + i ≡ i
+      none i = omega arith
+
+  lifted-in : (i : ℕ) → i < bandsOf k → inRange (y i) ≡ true
+  unfolding lifted
+  lifted-in i h = go (bit m i)
+    where
+      go : (b : Bool) → inRange (cond b (highest (airborne k)) (bandOf s i)) ≡ true
+      go true = best-in (airborne k)
+      go false = band-in s (bandsOf k) acc i h
+
+  mended-accepted : accepted mended (bandsOf k) ≡ true
+  unfolding accepted
+  mended-accepted = all-made (λ i. inRange (bandOf mended i)) (bandsOf k) (λ i h. ap inRange (mended-is i h) ∙ lifted-in i h)
+
+  -- reaching by rating is the total at the target within the limit
+  pub reaches-is : (target : ℤ) → reaches k (bandOf s) target m ≡ within k (lifted k (bandOf s) m) (targetAt k target)
+  unfolding reaches within
+  reaches-is target =
+      ap (meetsBy (airborne k) target) (sym (rating-same k (bandOf mended) y mended-is))
+      ∙ meets-is k mended mended-accepted target
+      ∙ ap (λ (t : ℕ). leb t (limitOf k)) (total-same k (bandOf mended) y mended-is (targetAt k target))

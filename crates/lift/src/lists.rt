@@ -1,0 +1,177 @@
+// The lift list of a band set.
+use crate::gains::counted;
+use crate::gains::gains_at;
+use crate::masks::mask_at;
+use quantity::BandSet;
+use quantity::Decibels;
+use quantity::Refusal;
+use rating::Kind;
+use rating::Rated;
+use rating::numbers_of;
+use rating::rate;
+ghost use mathlib.Core.Path.{_≡_};
+ghost use mathlib.Core.Bool.{true};
+ghost use Prim.Native.Nat.{ℕ, _+_, _*_, _-_, _≤_, _<_, min};
+ghost use lib.ListN.{length};
+ghost use Rattle.quantity.specs.Quantities.{bandOf};
+ghost use Rattle.rating.specs.Kinds.{airborne, bandsOf};
+ghost use Rattle.rating.specs.Bands.{accepted};
+ghost use Rattle.rating.specs.Curve.{ratingOf};
+ghost use Rattle.rating.specs.Levels.{at};
+ghost use Rattle.lift.specs.Reach.{betterBy, liftList};
+ghost use Rattle.lift.specs.Calls.{inTargets, placesOf, front, RatedIs, LiftIs};
+ghost use Rattle.lift.specs.Gains.{listedBy, byGains};
+
+// How many sets are listed, or why none can be.
+pub enum Lifted {
+    Count(usize),
+    Refused(Refusal),
+}
+
+// The lesser of two numbers.
+fn lesser(a: u32, b: u32) -> u32
+    ensures { λ r. ⌜ r ≡ min a b ⌝ }
+{
+    if a < b {
+        return a;
+    }
+    b
+}
+
+// Whether the gains of a set's bands make up what is needed, and without the least of them do not: then no smaller part of
+// the set reaches. A set of one band is left with no gain, and some is always needed.
+fn listed(mask: u16, gains: [u32; 16], need: u32) -> bool
+    requires { ⌜ need < 1000000 ⌝ }
+    requires { ⌜ ((i : ℕ) → at gains i < 10000) ⌝ }
+    ensures { λ r. ⌜ r ≡ listedBy (at gains) need mask ⌝ }
+{
+    let mut rest = mask;
+    let mut sum = 0;
+    // every gain is less than this
+    let mut least = 10000;
+    let mut i = 0;
+    while i < 16 {
+        if rest % 2 == 1 {
+            sum += gains[i];
+            least = lesser(least, gains[i]);
+        }
+        rest = rest / 2;
+        i += 1;
+    }
+    if sum < need {
+        return false;
+    }
+    sum < need + least
+}
+
+// Writes the listed sets to the front of `out`, in order, and counts them.
+fn fill(gains: [u32; 16], need: u32, out: &mut [u16]) -> usize
+    requires { ⌜ need < 1000000 ⌝ }
+    requires { ⌜ ((i : ℕ) → at gains i < 10000) ⌝ }
+    requires { ⌜ length (byGains gains need) ≤ length (now out) ⌝ }
+    ensures { λ r. ⌜ r ≡ length (byGains gains need) ⌝ }
+    ensures { λ r. ⌜ now (out .exit) ≡ front (byGains gains need) (now (out .entry)) ⌝ }
+{
+    let mut count = 0;
+    let mut i = 0;
+    while i < 696 {
+        let mask = mask_at(i);
+        if listed(mask, gains, need) {
+            out[count] = mask;
+            count += 1;
+        }
+        i += 1;
+    }
+    count
+}
+
+// Whether a target lies in -100..200.
+fn in_targets(target: Decibels) -> bool
+    ensures { λ r. ⌜ r ≡ inTargets (target .0) ⌝ }
+{
+    let t = target.0;
+    if t < -100 {
+        return false;
+    }
+    if 200 < t {
+        return false;
+    }
+    true
+}
+
+// Whether a target is better than a rating.
+fn better(airborne: bool, target: Decibels, rating: Decibels) -> bool
+    ensures { λ r. ⌜ r ≡ betterBy airborne (target .0) (rating .0) ⌝ }
+{
+    if airborne {
+        rating.0 < target.0
+    } else {
+        target.0 < rating.0
+    }
+}
+
+// How many places the list of a kind may take.
+fn places(kind: Kind) -> usize
+    ensures { λ r. ⌜ r ≡ placesOf kind ⌝ }
+{
+    match kind {
+        Kind::A3 => 696,
+        Kind::A1 => 25,
+        Kind::I3 => 696,
+        Kind::I1 => 25,
+    }
+}
+
+// Lists an accepted set, at a target that is better than its rating.
+fn list(kind: Kind, set: BandSet, target: Decibels, out: &mut [u16]) -> usize
+    requires { ⌜ accepted set (bandsOf kind) ≡ true ⌝ }
+    requires { ⌜ inTargets (target .0) ≡ true ⌝ }
+    requires { ⌜ betterBy (airborne kind) (target .0) (ratingOf kind (bandOf set)) ≡ true ⌝ }
+    requires { ⌜ placesOf kind ≤ length (now out) ⌝ }
+    ensures { λ r. ⌜ r ≡ length (liftList kind (bandOf set) (target .0)) ⌝ }
+    ensures { λ r. ⌜ now (out .exit) ≡ front (liftList kind (bandOf set) (target .0)) (now (out .entry)) ⌝ }
+{
+    let n = numbers_of(kind);
+    // a better target is stricter than position 0, at which nothing is missing
+    let p = counted(target.0, n.airborne, n.origin);
+    let entries = n.entries;
+    let gains = gains_at(set, n.bands, n.airborne, entries, p);
+    let each = gains.each;
+    fill(each, gains.total - n.limit, out)
+}
+
+// The list of a set that has been rated, or the refusal of its target or its room.
+fn lift_rated(
+    kind: Kind,
+    set: BandSet,
+    target: Decibels,
+    rating: Decibels,
+    out: &mut [u16],
+) -> Lifted
+    requires { ⌜ accepted set (bandsOf kind) ≡ true ⌝ }
+    requires { ⌜ rating .0 ≡ ratingOf kind (bandOf set) ⌝ }
+    ensures { λ r. ⌜ RatedIs kind set (target .0) (rating .0) (now (out .entry)) r (now (out .exit)) ⌝ }
+{
+    if !in_targets(target) {
+        return Lifted::Refused(Refusal::TargetRange);
+    }
+    let n = numbers_of(kind);
+    if !better(n.airborne, target, rating) {
+        return Lifted::Refused(Refusal::NotBetter);
+    }
+    if out.len() < places(kind) {
+        return Lifted::Refused(Refusal::NoRoom);
+    }
+    Lifted::Count(list(kind, set, target, out))
+}
+
+// Lists the least sets of one to three bands that reach the target: their count, with the sets from place 0 of `out` on and
+// the places after them as they were; or a refusal, with all of `out` as it was.
+pub fn lift(kind: Kind, set: BandSet, target: Decibels, out: &mut [u16]) -> Lifted
+    ensures { λ r. ⌜ LiftIs kind set (target .0) (now (out .entry)) r (now (out .exit)) ⌝ }
+{
+    match rate(kind, set) {
+        Rated::Rating(sheet) => lift_rated(kind, set, target, sheet.rating, out),
+        Rated::Refused(refusal) => Lifted::Refused(refusal),
+    }
+}

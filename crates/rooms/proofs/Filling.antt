@@ -1,0 +1,86 @@
+-- A list that a loop fills from its front, place after place: what is done, and zeros after it. Assumes nothing.
+use mathlib.Core.Path.{_≡_, refl, sym, _∙_, ap, subst}
+use mathlib.Core.Bool.{cond}
+use mathlib.Core.List.{List}
+use Prim.Native.Nat.{ℕ, zero, suc, _+_, _≤_, _<_}
+use native.Mathlib.Nat.{add-zero, zero-add, lt-irrefl}
+use native.Mathlib.Decide.{decLt}
+use native.Mathlib.Omega.{arith}
+use borrow.Author.Tests.{lt-ltb, le-ltb}
+use lib.Dec.{ltb}
+use lib.ListN.{length, getD, set, replicate, length-set, getD-replicate, length-replicate, List·getD-eq-default}
+use lib.Seq.{getD-set-same, getD-set-other, ext-getD}
+use Rattle.quantity.specs.declared.quantities.Tenths.{Tenths}
+use Rattle.intake.specs.Lists.{listed, nought}
+
+length-listed : (f : ℕ → Tenths) (k i : ℕ) → length (listed f k i) ≡ k
+unfolding listed
+length-listed f zero i = refl
+length-listed f (suc k) i = ap suc (length-listed f k (suc i))
+
+listed-from : (f : ℕ → Tenths) (k i j : ℕ) → j < k → getD (listed f k i) j nought ≡ f (i + j)
+unfolding listed
+listed-from f zero i j h = absurd (omega arith)
+listed-from f (suc k) i zero h = ap f (sym (add-zero i))
+listed-from f (suc k) i (suc j) h = listed-from f k (suc i) j (omega arith) ∙ ap f (omega arith)
+
+pub listed-at : (f : ℕ → Tenths) (k j : ℕ) → j < k → getD (listed f k 0) j nought ≡ f j
+listed-at f k j h = listed-from f k 0 j h ∙ ap f (zero-add j)
+
+-- of k places the first n hold f, the rest 0
+pub record Filled (f : ℕ → Tenths) (k : ℕ) (out : List Tenths) (n : ℕ) : Type 0 where
+  pub whole : length out ≡ k
+  pub done : (i : ℕ) → i < n → getD out i nought ≡ f i
+  pub rest : (i : ℕ) → n ≤ i → getD out i nought ≡ nought
+
+pub filled-none : (f : ℕ → Tenths) (k : ℕ) → Filled f k (replicate k nought) 0
+filled-none f k = record {
+  whole = length-replicate k nought;
+  done = λ i h. absurd (omega arith);
+  rest = λ i h. go i (decLt i k);
+}
+  where
+    go : (i : ℕ) → Dec (i < k) → getD (replicate k nought) i nought ≡ nought
+    go i (yes p) = getD-replicate k i nought nought p
+    go i (no p) = List·getD-eq-default (replicate k nought) nought {n = i} (omega (arith, length-replicate k nought))
+
+pub filled-more : (f : ℕ → Tenths) (k : ℕ) (out : List Tenths) (n : ℕ) (v : Tenths) → n < k → v ≡ f n → Filled f k out n
+    → Filled f k (set out n v) (n + 1)
+filled-more f k out n v h e w = record {
+  whole = length-set out n v ∙ w .whole;
+  done = λ i p. go i p (decLt i n);
+  rest = λ i p. getD-set-other out n i v nought (λ q. lt-irrefl n (omega arith)) ∙ w .rest i (omega arith);
+}
+  where
+    go : (i : ℕ) → i < n + 1 → Dec (i < n) → getD (set out n v) i nought ≡ f i
+    go i p (yes q) = getD-set-other out n i v nought (λ r. lt-irrefl n (subst (λ (m : ℕ). m < n) r q)) ∙ w .done i q
+    go i p (no q) = let r : n ≡ i = omega arith in
+        subst (λ (m : ℕ). getD (set out n v) m nought ≡ f m) r (getD-set-same out n v nought (omega (arith, w .whole)) ∙ e)
+
+-- the list is the defined one
+pub filled-list : (f : ℕ → Tenths) (k : ℕ) (out : List Tenths) (n : ℕ) → Filled f k out n
+    → out ≡ listed (λ i. cond (ltb i n) (f i) nought) k 0
+filled-list f k out n w =
+    ext-getD nought out (listed g k 0) (w .whole ∙ sym (length-listed g k 0))
+    (λ i h. at i (decLt i n) ∙ sym (listed-at g k i (omega (arith, w .whole))))
+  where
+    g : ℕ → Tenths
+    g i = cond (ltb i n) (f i) nought
+
+    at : (i : ℕ) → Dec (i < n) → getD out i nought ≡ cond (ltb i n) (f i) nought
+    at i (yes p) = rw (lt-ltb i n p) (w .done i p)
+    at i (no p) = rw (le-ltb i n (omega arith)) (w .rest i (omega arith))
+
+pub filled-whole : (f : ℕ → Tenths) (k : ℕ) (out : List Tenths) (n : ℕ) → k ≤ n → Filled f k out n → out ≡ listed f k 0
+filled-whole f k out n h w =
+    ext-getD nought out (listed f k 0) (w .whole ∙ sym (length-listed f k 0))
+    (λ i p. w .done i (omega (arith, w .whole)) ∙ sym (listed-at f k i (omega (arith, w .whole))))
+
+-- a list that is a shorter one with zeros after it
+pub filled-same : (values : List Tenths) (k : ℕ) (out : List Tenths) (n : ℕ) → length values ≡ n
+    → Filled (λ i. getD values i nought) k out n → (i : ℕ) → getD out i nought ≡ getD values i nought
+filled-same values k out n e w i = go (decLt i n)
+  where
+    go : Dec (i < n) → getD out i nought ≡ getD values i nought
+    go (yes p) = w .done i p
+    go (no p) = w .rest i (omega arith) ∙ sym (List·getD-eq-default values nought {n = i} (omega arith))
