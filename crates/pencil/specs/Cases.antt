@@ -1,20 +1,22 @@
 -- Document 01, "Pencil checks": the cases marked P, as one table over the definitions. Each row is a claim that is computed.
 use mathlib.Core.Bool.{Bool, true, false, _&&_}
-use mathlib.Core.List.{List, [], _∷_, map}
+use mathlib.Core.List.{List, [], _∷_, _++_, map}
 use mathlib.Core.Path.{_≡_}
 use Prim.Native.Nat.{ℕ, zero, suc, _+_, _*_, _-_}
 use lib.Dec.{eqb}
 use lib.IntN.{ℤ, pos, negsuc, negℤ, _+ℤ_, _-ℤ_, _*ℤ_}
-use lib.ListN.{getD, length}
-use Rattle.quantity.specs.Quantities.{halfUp}
+use lib.ListN.{getD, length, replicate}
+use Rattle.quantity.specs.declared.refusals.Refusal.{Refusal}
+use Rattle.quantity.specs.declared.refusals.Refusal.the-variants.{BandCount}
 use Rattle.quantity.specs.declared.quantities.BandSet.{BandSet}
 use Rattle.energy.specs.Corrections.{c, k}
 use Rattle.rating.specs.declared.kinds.Kind.{Kind}
 use Rattle.rating.specs.declared.kinds.Kind.the-variants.{A3, A1, I3, I1}
-use Rattle.rating.specs.Kinds.{airborne, Ctr}
-use Rattle.rating.specs.Curve.{total, ratingOf, shiftsOf}
-use Rattle.rating.specs.Sheets.{firstBy, decibels}
-use Rattle.rating.specs.Terms.{airborneTerm}
+use Rattle.rating.specs.declared.sheets.Term.{Term}
+use Rattle.rating.specs.declared.sheets.Term.the-variants.{Given, Absent}
+use Rattle.rating.specs.declared.sheets.Rated.the-variants.{Rating, Refused}
+use Rattle.rating.specs.Curve.{total, ratingOf}
+use Rattle.rating.specs.Sheets.{ratedOf, decibels}
 use Rattle.lift.specs.Reach.{liftList}
 use Rattle.rooms.specs.declared.covers.Cover.the-variants.{Improvement}
 use Rattle.rooms.specs.Covers.{coverOf}
@@ -26,9 +28,9 @@ Bands = List ℤ
 abbrev pub at : Bands → ℕ → ℤ
 at x i = getD x i (pos 0)
 
--- the same as a band set with no marks
+-- the same as a band set with no marks: its values, then zeros
 abbrev pub setOf : Bands → BandSet
-setOf x = record { values = map (λ (z : ℤ). record { 0 = z }) x; marks = 0; len = length x }
+setOf x = record { values = map (λ (z : ℤ). record { 0 = z }) x ++ replicate (16 - length x) (record { 0 = pos 0 }); marks = 0; len = length x }
 
 -- sixteen times 50.0
 abbrev pub fifties : Bands
@@ -37,6 +39,10 @@ fifties = pos 500 ∷ pos 500 ∷ pos 500 ∷ pos 500 ∷ pos 500 ∷ pos 500 �
 -- the octaves of the line K2
 abbrev pub octaves : Bands
 octaves = pos 240 ∷ pos 330 ∷ pos 400 ∷ pos 430 ∷ pos 440 ∷ []
+
+-- the four octaves of the line K4
+abbrev pub four : Bands
+four = pos 240 ∷ pos 330 ∷ pos 400 ∷ pos 430 ∷ []
 
 -- the reference floor
 abbrev pub floor : Bands
@@ -62,10 +68,10 @@ twice-dipped = pos 310 ∷ pos 340 ∷ pos 370 ∷ pos 400 ∷ pos 430 ∷ pos 4
 
 -- one pencil check
 pub data Case : Type 0 where
-  -- a set of a kind has this rating, first term, and count of shifts
-  rates : Kind → Bands → ℤ → ℤ → ℕ → Case
-  -- an airborne set has this second term
-  second : Kind → Bands → ℤ → Case
+  -- a set of a kind has this sheet: rating, first term, second term, count of shifts, no mark
+  rates : Kind → Bands → ℤ → ℤ → Term → ℕ → Case
+  -- a set of a kind is refused
+  refuses : Kind → Bands → Refusal → Case
   -- a set's rating alone
   rating : Kind → Bands → ℤ → Case
   -- the total of a set's deficits at a position
@@ -80,8 +86,8 @@ pub data Case : Type 0 where
 
 -- what a check claims
 abbrev pub Claim : Case → Type 0
-Claim (rates k x r t s) = (ratingOf k (at x) ≡ r) × (firstBy (airborne k) k (at x) ≡ t) × (shiftsOf k (at x) ≡ s)
-Claim (second k x t) = halfUp (airborneTerm k (at x) (Ctr k)) ≡ t
+Claim (rates k x r t u s) = ratedOf k (setOf x) ≡ Rating (record { rating = decibels r; first = decibels t; second = u; shifts = s; limit = false })
+Claim (refuses k x r) = ratedOf k (setOf x) ≡ Refused r
 Claim (rating k x r) = ratingOf k (at x) ≡ r
 Claim (totals k x p t) = total k (at x) p ≡ t
 Claim (lists k x t ms) = liftList k (at x) t ≡ ms
@@ -96,11 +102,10 @@ All (x ∷ xs) = Claim x × All xs
 unfoldable pub table : List Case
 table =
     -- the four lines of the whole example
-    rates A3 fifties (pos 50) (pos 0) 5 ∷
-    second A3 fifties (pos 0) ∷
-    rates A1 octaves (pos 42) (negℤ (pos 2)) 0 ∷
-    second A1 octaves (negℤ (pos 6)) ∷
-    rates I3 floor (pos 78) (negℤ (pos 10)) 13 ∷
+    rates A3 fifties (pos 50) (pos 0) (Given (decibels (pos 0))) 5 ∷
+    rates A1 octaves (pos 42) (negℤ (pos 2)) (Given (decibels (negℤ (pos 6)))) 0 ∷
+    rates I3 floor (pos 78) (negℤ (pos 10)) Absent 13 ∷
+    refuses A1 four BandCount ∷
     -- K + 50 dB rates 52, with a total of exactly 320; target 53 lists nothing
     rating A3 even (pos 52) ∷
     totals A3 even (pos 52) 320 ∷

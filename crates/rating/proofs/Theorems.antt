@@ -3,12 +3,14 @@
 -- stated length never matters. Assumes nothing.
 use mathlib.Core.Path.{_≡_, refl, sym, _∙_, ap, ap₂, subst}
 use mathlib.Core.Bool.{Bool, true, false, cond, _&&_, _||_}
+use mathlib.Core.List.{List, [], _∷_}
 use Prim.Native.Nat.{ℕ, zero, suc, _+_, _*_, _-_, _≤_, _<_}
-use native.Mathlib.Nat.{le-refl}
+use native.Mathlib.Nat.{le-refl, not-suc-le-zero, add-zero, add-suc, suc-add}
 use native.Mathlib.Decide.{decLe}
 use native.Mathlib.Omega.{arith}
 use lib.Dec.{T, eqb, leb}
 use lib.IntN.{ℤ, pos, _+ℤ_, _-ℤ_, _*ℤ_}
+use lib.ListN.{getD}
 use lib.Signed.{_≤ℤ_}
 use Rattle.laws.specs.Parts.{P, N}
 use Rattle.laws.specs.Sums.{sumTo, sumℤ}
@@ -16,6 +18,7 @@ use Rattle.laws.proofs.Ints.{ints, plus, minus, apart, eq-made, le-read}
 use Rattle.laws.proofs.Sums.{sum-same, sumℤ-same}
 use Rattle.quantity.specs.Quantities.{inRange, halfUp, bandOf}
 use Rattle.quantity.specs.declared.quantities.BandSet.{BandSet}
+use Rattle.quantity.specs.declared.quantities.Tenths.{Tenths}
 use Rattle.quantity.specs.declared.refusals.Refusal.the-variants.{BandCount, BandRange}
 use Rattle.energy.specs.Energies.{F, u}
 use Rattle.rating.specs.declared.kinds.Kind.{Kind}
@@ -29,8 +32,8 @@ use Rattle.rating.specs.Curve.{deficit, total, within, stricterBy, IsPos
 use Rattle.rating.specs.Terms.{lesser, greater, leastTo, greatestTo, less, weighted, airborneTerm, impactTerm}
 use Rattle.rating.specs.Sheets.{firstBy, secondBy, sheetOf, ratedOf, asked}
 use Rattle.rating.specs.Levels.{levelAt, entriesOf, startAdd, startAt, totalAt, Settled}
-use Rattle.rating.proofs.Walks.{total-zero, next-over}
-use Rattle.rating.proofs.Searched.{count-some}
+use Rattle.rating.proofs.Walks.{total-zero, next-over, all-made}
+use Rattle.rating.proofs.Searched.{count-most, count-some}
 use Rattle.rating.proofs.Facts.{count-of}
 use Rattle.rating.proofs.Meaning.{is-position}
 
@@ -85,6 +88,13 @@ back-by false start s = eq-made (omega (arith, minus (start +ℤ pos s) start, p
 pub shifts-distance : (k : Kind) (x : ℕ → ℤ) → distanceBy (airborne k) (startOf k x) (positionOf k x) ≡ pos (shiftsOf k x)
 unfolding positionOf shifted
 shifts-distance k x = back-by (airborne k) (startOf k x) (shiftsOf k x)
+
+-- so the count of shifts is the distance to the greatest (least) position, whoever found that
+pub shifts-true : (k : Kind) (s : BandSet) → accepted s (bandsOf k) ≡ true → (p : ℤ) → IsPosition k (bandOf s) p
+    → distanceBy (airborne k) (startOf k (bandOf s)) p ≡ pos (shiftsOf k (bandOf s))
+shifts-true k s acc p h =
+    ap (distanceBy (airborne k) (startOf k (bandOf s))) (position-unique k (bandOf s) p (positionOf k (bandOf s)) h (position-best k s acc))
+    ∙ shifts-distance k (bandOf s)
 
 -- ---- what lies past the stated length does not matter
 all-same : (f g : ℕ → Bool) (n : ℕ) → ((i : ℕ) → i < n → f i ≡ g i) → allTo f n ≡ allTo g n
@@ -184,3 +194,33 @@ past-length k s t len values marks =
     let b : allTo (λ j. inRange (bandOf s j)) (bandsOf k) ≡ allTo (λ j. inRange (bandOf t j)) (bandsOf k) =
     all-same (λ j. inRange (bandOf s j)) (λ j. inRange (bandOf t j)) (bandsOf k) (λ j h. ap inRange (values j h)) in
     λ i. asked (eqb (len i) (bandsOf k)) (asked (b i) (Rating (sheet-same k s t values marks i)) (Refused BandRange)) (Refused BandCount)
+
+-- ---- the same for any values in range, whatever holds them
+listed-tenths : (ℕ → ℤ) → ℕ → ℕ → List Tenths
+listed-tenths x zero i = []
+listed-tenths x (suc n) i = record { 0 = x i } ∷ listed-tenths x n (suc i)
+
+held-at : (x : ℕ → ℤ) (n j i : ℕ) → i < n → getD (listed-tenths x n j) i (record { 0 = pos 0 }) .0 ≡ x (j + i)
+unfolding listed-tenths
+held-at x zero j i h = absurd (not-suc-le-zero h)
+held-at x (suc n) j zero h = ap x (sym (add-zero j))
+held-at x (suc n) j (suc i) h = held-at x n (suc j) i (omega arith) ∙ ap x (suc-add j i ∙ sym (add-suc j i))
+
+as-set : (ℕ → ℤ) → BandSet
+as-set x = record { values = listed-tenths x 16 0; marks = 0; len = 16 }
+
+pub position-best-of : (k : Kind) (x : ℕ → ℤ) → ((i : ℕ) → i < bandsOf k → inRange (x i) ≡ true) → IsPosition k x (positionOf k x)
+unfolding as-set accepted positionOf
+position-best-of k x h =
+    let s : BandSet = as-set x in
+    let same : (i : ℕ) → i < bandsOf k → bandOf s i ≡ x i = λ i q. held-at x 16 0 i (omega (arith, count-most (count-of k))) ∙ ap x (none i) in
+    let acc : accepted s (bandsOf k) ≡ true = all-made (λ i. inRange (bandOf s i)) (bandsOf k) (λ i q. ap inRange (same i q) ∙ h i q) in
+    let w : IsPosition k (bandOf s) (positionOf k (bandOf s)) = position-best k s acc in
+    let e : positionOf k (bandOf s) ≡ positionOf k x = ap₂ (λ (z : ℤ) (m : ℕ). shifted k z m) (start-same k (bandOf s) x same) (shifts-same k (bandOf s) x same) in
+    subst (IsPosition k x) e (record {
+      holds = subst T (within-same k (bandOf s) x same (positionOf k (bandOf s))) (w .holds);
+      best = λ q t. w .best q (subst T (sym (within-same k (bandOf s) x same q)) t);
+    })
+  where
+    none : (i : ℕ) → 0 + i ≡ i
+    none i = omega arith

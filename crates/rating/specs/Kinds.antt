@@ -10,7 +10,7 @@ use Rattle.rating.specs.declared.kinds.Kind.the-variants.{A3, A1, I3, I1
 abbrev pub neg : ℕ → ℤ
 neg n = negℤ (pos n)
 
--- the kinds of thirds, and of octaves; airborne or impact
+-- airborne, or impact
 abbrev pub airborne : Kind → Bool
 airborne A3 = true
 airborne A1 = true

@@ -32,6 +32,7 @@ abbrev pub secondBy : Bool → Kind → (ℕ → ℤ) → Term
 secondBy true k x = Given (decibels (halfUp (airborneTerm k x (Ctr k))))
 secondBy false k x = Absent
 
+-- the mark: "at least for airborne, at most for impact"
 unfoldable pub sheetOf : Kind → BandSet → Sheet
 sheetOf k s = record {
   rating = decibels (ratingOf k (bandOf s));

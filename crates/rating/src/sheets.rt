@@ -30,8 +30,8 @@ pub enum Term {
     Absent,
 }
 
-// The rating, its terms (C and Ctr, or the impact term and none), the count of curve shifts, and whether the set is marked
-// as a limit set.
+// The rating, its terms (C and Ctr, or the impact term and none), the count of curve shifts, and whether the set is marked as
+// a limit set: the rating is then at least this for airborne, at most this for impact.
 pub struct Sheet {
     pub rating: Decibels,
     pub first: Decibels,

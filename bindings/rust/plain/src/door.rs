@@ -3,9 +3,9 @@
 //! Each answers 0 or a refusal's number. Answers go to the lent slices from their first place;
 //! a refusal changes none of them, and neither do places past the answer change.
 
-use crate::intake::{self, all_in_range};
-use crate::refusal::{Answered, BAND_COUNT, BAND_RANGE, NOT_SPECIMENS, OUTPUT_TOO_SMALL};
-use crate::{lift as lifts, line as lines, rating, rooms};
+use crate::rating::{accepted, bands, sheet, Sheet};
+use crate::refusal::{Answered, BAND_COUNT, NOT_SPECIMENS, OUTPUT_TOO_SMALL};
+use crate::{intake, lift as lifts, line as lines, rooms};
 
 /// Writes an answer of N numbers: 0, or 10 where the output is too small; or passes a refusal on.
 fn put<T: Copy, const N: usize>(answer: Answered<[T; N]>, out: &mut [T]) -> u32 {
@@ -19,30 +19,12 @@ fn put<T: Copy, const N: usize>(answer: Answered<[T; N]>, out: &mut [T]) -> u32 
     }
 }
 
-/// The values of a set of `bands` bands, what lies past them 0: 1, then 4.
-fn set(bands: usize, values: &[i32]) -> Answered<[i32; 16]> {
-    if values.len() != bands {
-        return Err(BAND_COUNT);
-    }
-    let accepted = if let Some(sixteen) = values.first_chunk::<16>() {
-        *sixteen
-    } else {
-        core::array::from_fn(|band| values.get(band).copied().unwrap_or(0))
-    };
-    if all_in_range(&accepted) {
-        Ok(accepted)
-    } else {
-        Err(BAND_RANGE)
-    }
-}
-
 /// Whether any of the first bands has a limit mark, as the last number of an answer.
 fn limited(bands: usize, marks: u32) -> i32 {
-    i32::from(marks & ((1 << bands) - 1) != 0)
+    i32::from(marks & ((1 << bands.min(16)) - 1) != 0)
 }
 
-fn sheet(kind: u32, values: &[i32; 16], limit: i32) -> [i32; 6] {
-    let sheet = rating::sheet(kind, values);
+fn numbers(sheet: Sheet, limit: i32) -> [i32; 6] {
     let second = sheet.second.unwrap_or(0);
     let has_second = i32::from(sheet.second.is_some());
     [sheet.rating, sheet.first, second, has_second, sheet.shifts, limit]
@@ -56,29 +38,20 @@ pub fn reading(mark: u32, value: f32, out: &mut [i32]) -> u32 {
 
 /// Rating of a set: rating, first term, second term, whether there is one, shifts, limit.
 pub fn rate(kind: u32, values: &[i32], marks: u32, out: &mut [i32]) -> u32 {
-    let answer = || {
-        let bands = rating::bands(kind)?;
-        Ok(sheet(kind, &set(bands, values)?, limited(bands, marks)))
-    };
-    put(answer(), out)
+    let limit = limited(values.len(), marks);
+    put(sheet(kind, values).map(|sheet| numbers(sheet, limit)), out)
 }
 
 /// Rating from readings, as `rate`.
 pub fn rate_readings(kind: u32, marks: &[u8], values: &[f32], out: &mut [i32]) -> u32 {
     let answer = || {
-        let bands = rating::bands(kind)?;
-        if values.len() != bands {
+        if values.len() != bands(kind)? {
             return Err(BAND_COUNT);
         }
-        let (taken, limits) = if bands == 16 {
-            intake::readings::<16>(marks, values)?
-        } else {
-            let (five, limits) = intake::readings::<5>(marks, values)?;
-            let mut taken = [0; 16];
-            taken[..5].copy_from_slice(&five);
-            (taken, limits)
-        };
-        Ok(sheet(kind, &taken, i32::from(limits != 0)))
+        let mut tenths = [0; 16];
+        let taken = &mut tenths[..values.len()];
+        let limits = intake::readings(marks, values, taken)?;
+        Ok(numbers(sheet(kind, taken)?, i32::from(limits != 0)))
     };
     put(answer(), out)
 }
@@ -86,7 +59,7 @@ pub fn rate_readings(kind: u32, marks: &[u8], values: &[f32], out: &mut [i32]) -
 /// Improvement of a cover: improvement rating, term, limit.
 pub fn cover(values: &[i32], marks: u32, out: &mut [i32]) -> u32 {
     let answer = || {
-        let (improvement, term) = rooms::cover(&set(16, values)?)?;
+        let (improvement, term) = rooms::cover(accepted(values)?)?;
         Ok([improvement, term, limited(16, marks)])
     };
     put(answer(), out)
@@ -111,7 +84,7 @@ pub fn raw(source: f32, receiving: f32, background: f32, time: f32, out: &mut [i
 /// Octaves of thirds: five values, marks.
 pub fn octaves(values: &[i32], marks: u32, out: &mut [i32]) -> u32 {
     let answer = || {
-        let ([a, b, c, d, e], limits) = rooms::octaves(&set(16, values)?, marks);
+        let ([a, b, c, d, e], limits) = rooms::octaves(accepted(values)?, marks);
         Ok([a, b, c, d, e, limits as i32])
     };
     put(answer(), out)
@@ -122,7 +95,8 @@ fn means(marks: &[u8], values: &[f32]) -> Answered<([i32; 16], u32)> {
     if values.len() != 48 {
         return Err(NOT_SPECIMENS);
     }
-    let (taken, limits) = intake::readings::<48>(marks, values)?;
+    let mut taken = [0; 48];
+    let limits = intake::readings(marks, values, &mut taken)?;
     Ok(rooms::specimens(&taken, limits))
 }
 
@@ -156,11 +130,7 @@ pub fn lift(
 ) -> u32 {
     // Where there is no place for the count, the list may not change either.
     let room = if out.is_empty() { &mut [] } else { list };
-    let mut answer = || {
-        let accepted = set(rating::bands(kind)?, values)?;
-        Ok([lifts::lift(kind, &accepted, target, room)? as i32])
-    };
-    put(answer(), out)
+    put(lifts::lift(kind, values, target, room).map(|count| [count as i32]), out)
 }
 
 /// Line call: the answer line to `out` from the place `at` on, its length to `wrote`.

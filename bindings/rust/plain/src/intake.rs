@@ -16,9 +16,9 @@ pub fn in_range(tenths: i32) -> bool {
     tenths.wrapping_sub(LEAST) as u32 <= (GREATEST - LEAST) as u32
 }
 
-/// Whether all of sixteen are; without a branch for each, several at once.
+/// Whether all values are in range: without a branch for each, several at once.
 #[inline(always)]
-pub fn all_in_range(values: &[i32; 16]) -> bool {
+pub fn all_in_range(values: &[i32]) -> bool {
     values.iter().fold(true, |all, &value| all & in_range(value))
 }
 
@@ -78,16 +78,15 @@ pub fn reading(mark: u32, value: f32) -> Answered<(i32, bool)> {
     Ok((tenths(value)?, mark == LIMIT))
 }
 
-/// N readings as values and limit marks, the first refusal in their order. A mark past the end of
-/// the marks is that of a missing reading. The caller has tested that there are N values.
-pub fn readings<const N: usize>(marks: &[u8], values: &[f32]) -> Answered<([i32; N], u64)> {
-    let mut taken = [0; N];
+/// Takes in readings, one for each place; answers their limit marks, or the first refusal in their
+/// order. A mark past the end of the marks is that of a missing reading.
+pub fn readings(marks: &[u8], values: &[f32], taken: &mut [i32]) -> Answered<u64> {
     let mut limits = 0;
-    for (band, &value) in values[..N].iter().enumerate() {
+    for (band, (place, &value)) in taken.iter_mut().zip(values).enumerate() {
         let mark = marks.get(band).copied().ok_or(READING_MISSING)?;
         let (tenths, limit) = reading(u32::from(mark), value)?;
-        taken[band] = tenths;
+        *place = tenths;
         limits |= u64::from(limit) << band;
     }
-    Ok((taken, limits))
+    Ok(limits)
 }

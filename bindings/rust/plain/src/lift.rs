@@ -1,21 +1,22 @@
 //! The lift list.
 
 use crate::intake::{GREATEST, LEAST};
-use crate::rating::{five, Kind, A1, A3, I1, I3};
-use crate::refusal::{Answered, OUTPUT_TOO_SMALL, TARGET_NOT_BETTER, TARGET_RANGE};
+use crate::rating::{accepted, Kind, A1, A3, I1, I3};
+use crate::refusal::{Answered, BAND_COUNT, OUTPUT_TOO_SMALL, TARGET_NOT_BETTER, TARGET_RANGE};
 
 /// The places that the list needs: every set of 1 to 3 bands.
 const fn places(bands: usize) -> usize {
     bands + bands * (bands - 1) / 2 + bands * (bands - 1) * (bands - 2) / 6
 }
 
-/// The lift list of accepted values, its count: 9, 8, 10.
-pub fn lift(kind: u32, values: &[i32; 16], target: i32, list: &mut [u16]) -> Answered<usize> {
+/// The lift list of a set, its count: 1, 4, then 9, 8, 10.
+pub fn lift(kind: u32, values: &[i32], target: i32, list: &mut [u16]) -> Answered<usize> {
     match kind {
-        0 => listed(&A3, values, target, list),
-        1 => listed(&A1, five(values), target, list),
-        2 => listed(&I3, values, target, list),
-        _ => listed(&I1, five(values), target, list),
+        0 => listed(&A3, accepted(values)?, target, list),
+        1 => listed(&A1, accepted(values)?, target, list),
+        2 => listed(&I3, accepted(values)?, target, list),
+        3 => listed(&I1, accepted(values)?, target, list),
+        _ => Err(BAND_COUNT),
     }
 }
 
@@ -43,10 +44,10 @@ fn listed<const N: usize>(
 /// A set reaches the target exactly when its gains come to the need: the total at the target is
 /// then within the limit. The need is more than 0, since the target is better than the rating.
 fn gains<const N: usize>(kind: &Kind<N>, values: &[i32; N], target: i32) -> ([i32; N], i32) {
-    let curve = 10 * kind.position_of_rating(target);
-    let deficits = |turned: &[i32; N]| kind.surplus(turned).map(|above| (curve - above).max(0));
-    let now = deficits(&values.map(|value| kind.turned(value)));
-    let lifted = deficits(&[kind.turned(GREATEST).max(kind.turned(LEAST)); N]);
+    let position = kind.position_of_rating(target);
+    let best = if kind.turned(GREATEST) > kind.turned(LEAST) { GREATEST } else { LEAST };
+    let now = kind.deficits(values, position);
+    let lifted = kind.deficits(&[best; N], position);
     let gains = core::array::from_fn(|band| now[band] - lifted[band]);
     (gains, now.iter().sum::<i32>() - kind.limit())
 }

@@ -1,7 +1,7 @@
 //! Request lines, answer lines and blocks of lines.
 
-use crate::intake::{all_in_range, in_range};
-use crate::rating::{bands, sheet};
+use crate::intake::in_range;
+use crate::rating::{sheet, Sheet};
 use crate::refusal::{
     Answered, BAND_COUNT, BAND_RANGE, NOT_A_REQUEST, OUTPUT_TOO_SMALL, READING_MISSING,
 };
@@ -17,7 +17,7 @@ struct Request {
     kind: u32,
     /// Where the key's tab stands.
     key_end: usize,
-    /// The number of bands; they are kept where they are no more than sixteen, 0 past them.
+    /// The number of bands; they are kept where they are no more than sixteen.
     count: usize,
     values: [i32; 16],
     limit: bool,
@@ -105,19 +105,19 @@ fn band(line: &[u8], start: usize) -> Option<(i32, bool, usize)> {
     Some((if minus { -tenths } else { tenths }, limit, point + 2))
 }
 
-/// The refusal of a request: 1, then bands from the lowest, each 3, then 4.
+/// The sheet of a request: 1, then bands from the lowest, each 3, then 4.
 #[inline(always)]
-fn accepted(request: &Request) -> Answered<()> {
-    let bands = bands(request.kind)?;
-    if request.count != bands {
-        return Err(BAND_COUNT);
-    }
-    if all_in_range(&request.values) {
-        return Ok(());
-    }
-    match request.values.iter().find(|&&value| !in_range(value)) {
-        Some(&MISSING) => Err(READING_MISSING),
-        _ => Err(BAND_RANGE),
+fn sheet_of(request: &Request) -> Answered<Sheet> {
+    let kept = &request.values[..request.count.min(16)];
+    let rated = if request.count > 16 { Err(BAND_COUNT) } else { sheet(request.kind, kept) };
+    rated.map_err(|refusal| if refusal == BAND_RANGE { refusal_of_bands(kept) } else { refusal })
+}
+
+/// Which refusal the lowest band has that is not in range; a missing one is not.
+fn refusal_of_bands(values: &[i32]) -> u32 {
+    match values.iter().find(|&&value| !in_range(value)) {
+        Some(&MISSING) => READING_MISSING,
+        _ => BAND_RANGE,
     }
 }
 
@@ -199,10 +199,10 @@ const fn field(number: i32) -> [u8; 8] {
 #[inline(always)]
 fn answer(line: &[u8], request: &Request) -> Text {
     let mut text = Text::starting(&line[..request.key_end + 1]);
-    if let Err(refusal) = accepted(request) {
-        return text.refused(refusal);
-    }
-    let sheet = sheet(request.kind, &request.values);
+    let sheet = match sheet_of(request) {
+        Ok(sheet) => sheet,
+        Err(refusal) => return text.refused(refusal),
+    };
     text.put(b"0\t");
     text.number(sheet.rating);
     text.number(sheet.first);

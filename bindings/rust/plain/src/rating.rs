@@ -4,11 +4,13 @@
 //! better, a deficit is what a band lacks below the curve, and the rating is the greatest position.
 
 use crate::energy;
-use crate::refusal::{Answered, BAND_COUNT};
+use crate::intake::all_in_range;
+use crate::refusal::{Answered, BAND_COUNT, BAND_RANGE};
 
 /// What a kind of N bands owns, in tenths, turned over for impact.
 pub struct Kind<const N: usize> {
-    airborne: bool,
+    /// 1 for airborne; -1 for impact.
+    sign: i32,
     limit: i32,
     reference: [i32; N],
     /// 10 L of the first and the second term; none for impact.
@@ -28,7 +30,7 @@ const fn times<const N: usize>(factor: i32, decibels: [i32; N]) -> [i32; N] {
 }
 
 pub static A3: Kind<16> = Kind {
-    airborne: true,
+    sign: 1,
     limit: 320,
     reference: times(10, [-19, -16, -13, -10, -7, -4, -1, 0, 1, 2, 3, 4, 4, 4, 4, 4]),
     spectra: [
@@ -39,7 +41,7 @@ pub static A3: Kind<16> = Kind {
 };
 
 pub static A1: Kind<5> = Kind {
-    airborne: true,
+    sign: 1,
     limit: 100,
     reference: times(10, [-16, -7, 0, 3, 4]),
     spectra: [times(10, [-21, -14, -8, -5, -4]), times(10, [-14, -10, -7, -4, -6])],
@@ -47,7 +49,7 @@ pub static A1: Kind<5> = Kind {
 };
 
 pub static I3: Kind<16> = Kind {
-    airborne: false,
+    sign: -1,
     limit: 320,
     reference: times(-10, [2, 2, 2, 2, 2, 2, 1, 0, -1, -2, -3, -6, -9, -12, -15, -18]),
     spectra: [[0; 16]; 2],
@@ -55,7 +57,7 @@ pub static I3: Kind<16> = Kind {
 };
 
 pub static I1: Kind<5> = Kind {
-    airborne: false,
+    sign: -1,
     limit: 100,
     reference: times(-10, [2, 2, 0, -3, -16]),
     spectra: [[0; 5]; 2],
@@ -74,17 +76,7 @@ impl<const N: usize> Kind<N> {
     /// A value turned so that more is better.
     #[inline(always)]
     pub fn turned(&self, value: i32) -> i32 {
-        if self.airborne {
-            value
-        } else {
-            -value
-        }
-    }
-
-    /// What each turned value has above the reference curve at position 0.
-    #[inline(always)]
-    pub fn surplus(&self, turned: &[i32; N]) -> [i32; N] {
-        core::array::from_fn(|band| turned[band] - self.reference[band])
+        self.sign * value
     }
 
     #[inline(always)]
@@ -92,8 +84,7 @@ impl<const N: usize> Kind<N> {
         self.limit
     }
 
-    /// The position whose rating is this, and the rating of this position.
-    #[inline(always)]
+    /// The position whose rating is this.
     pub fn position_of_rating(&self, rating: i32) -> i32 {
         self.turned(rating + self.off)
     }
@@ -103,16 +94,23 @@ impl<const N: usize> Kind<N> {
         self.turned(position) - self.off
     }
 
+    /// The deficits of values at a position.
+    pub fn deficits(&self, values: &[i32; N], position: i32) -> [i32; N] {
+        core::array::from_fn(|band| {
+            deficit(self.turned(values[band]), self.reference[band], 10 * position)
+        })
+    }
+
     /// The greatest position whose deficits total at most the limit.
     ///
-    /// The total is convex, so each step by the slope at hand stays at or above the answer.
+    /// The total is convex in the position: from where it would stand if every band had a deficit,
+    /// each step by the slope at hand stays at or above the answer.
     #[inline(always)]
-    fn position(&self, turned: &[i32; N]) -> i32 {
-        let surplus = self.surplus(turned);
-        let all: i32 = surplus.iter().sum();
-        let mut position = (self.limit + all).div_euclid(10 * N as i32);
+    fn position(&self, values: &[i32; N]) -> i32 {
+        let surplus = self.turned(values.iter().sum::<i32>()) - self.reference.iter().sum::<i32>();
+        let mut position = (self.limit + surplus).div_euclid(10 * N as i32);
         loop {
-            let (total, short) = deficits(&surplus, 10 * position);
+            let (total, short) = total_deficit(self.sign, values, &self.reference, 10 * position);
             if total <= self.limit {
                 return position;
             }
@@ -122,51 +120,56 @@ impl<const N: usize> Kind<N> {
 
     /// Where the curve method starts: the mean rounded up to a whole dB, plus 5.
     #[inline(always)]
-    fn start(&self, turned: &[i32; N]) -> i32 {
-        let sum: i32 = turned.iter().sum();
+    fn start(&self, values: &[i32; N]) -> i32 {
+        let sum = self.turned(values.iter().sum());
         let tenths_of_a_decibel = 10 * N as i32;
         (sum + tenths_of_a_decibel - 1).div_euclid(tenths_of_a_decibel) + 5
     }
 
     /// A term in whole dB, half going up.
     #[inline(always)]
-    fn term(&self, turned: &[i32; N], spectrum: &[i32; N], rating: i32) -> i32 {
-        let weighted = core::array::from_fn(|band| turned[band] - spectrum[band]);
+    fn term(&self, values: &[i32; N], spectrum: &[i32; N], rating: i32) -> i32 {
+        let weighted = core::array::from_fn(|band| self.turned(values[band]) - spectrum[band]);
         let level = self.turned(energy::together::<N>(&weighted));
-        let tenths = level - 10 * rating - if self.airborne { 0 } else { 150 };
+        let tenths = level - 10 * rating - if self.sign < 0 { 150 } else { 0 };
         (tenths + 5).div_euclid(10)
     }
 
     /// The rating of accepted values.
     #[inline(always)]
     pub fn rating(&self, values: &[i32; N]) -> i32 {
-        self.rating_of_position(self.position(&values.map(|value| self.turned(value))))
+        self.rating_of_position(self.position(values))
     }
 
     /// The sheet of accepted values.
     #[inline(always)]
     pub fn sheet(&self, values: &[i32; N]) -> Sheet {
-        let turned = values.map(|value| self.turned(value));
-        let position = self.position(&turned);
+        let position = self.position(values);
         let rating = self.rating_of_position(position);
         Sheet {
             rating,
-            first: self.term(&turned, &self.spectra[0], rating),
-            second: self.airborne.then(|| self.term(&turned, &self.spectra[1], rating)),
-            shifts: self.start(&turned) - position,
+            first: self.term(values, &self.spectra[0], rating),
+            second: (self.sign > 0).then(|| self.term(values, &self.spectra[1], rating)),
+            shifts: self.start(values) - position,
         }
     }
 }
 
+/// What a band lacks below a curve.
+#[inline(always)]
+fn deficit(turned: i32, reference: i32, curve: i32) -> i32 {
+    (curve + reference - turned).max(0)
+}
+
 /// The total of the deficits below a curve, and how many bands have one.
 ///
-/// On a slice, so that the loop is kept and done several bands at once.
+/// On slices, so that the loop is kept and the machine does several bands at once.
 #[inline(never)]
-fn deficits(surplus: &[i32], curve: i32) -> (i32, u32) {
+fn total_deficit(sign: i32, values: &[i32], reference: &[i32], curve: i32) -> (i32, u32) {
     let mut total = 0;
     let mut short = 0;
-    for above in surplus {
-        let deficit = (curve - above).max(0);
+    for (value, &reference) in values.iter().zip(reference) {
+        let deficit = deficit(sign * value, reference, curve);
         total += deficit;
         short += u32::from(deficit > 0);
     }
@@ -182,18 +185,24 @@ pub fn bands(kind: u32) -> Answered<usize> {
     }
 }
 
-/// The first five of sixteen values.
+/// N values as they stand: 1, then 4.
 #[inline(always)]
-pub fn five(values: &[i32; 16]) -> &[i32; 5] {
-    values.first_chunk().unwrap()
+pub fn accepted<const N: usize>(values: &[i32]) -> Answered<&[i32; N]> {
+    let values: &[i32; N] = values.try_into().map_err(|_| BAND_COUNT)?;
+    if all_in_range(values) {
+        Ok(values)
+    } else {
+        Err(BAND_RANGE)
+    }
 }
 
-/// The sheet of accepted values of a kind that `bands` knows; octaves are the first five.
-pub fn sheet(kind: u32, values: &[i32; 16]) -> Sheet {
+/// The sheet of a set: 1, then 4.
+pub fn sheet(kind: u32, values: &[i32]) -> Answered<Sheet> {
     match kind {
-        0 => A3.sheet(values),
-        1 => A1.sheet(five(values)),
-        2 => I3.sheet(values),
-        _ => I1.sheet(five(values)),
+        0 => Ok(A3.sheet(accepted(values)?)),
+        1 => Ok(A1.sheet(accepted(values)?)),
+        2 => Ok(I3.sheet(accepted(values)?)),
+        3 => Ok(I1.sheet(accepted(values)?)),
+        _ => Err(BAND_COUNT),
     }
 }
