@@ -1,7 +1,10 @@
 -- Document 01, "Sums of energies": F, H and the number u. Each is its rule; the tables are in the code.
 use mathlib.Core.Bool.{Bool}
+use mathlib.Core.List.{List}
+use mathlib.Core.Path.{_≡_}
 use Prim.Native.Nat.{ℕ, suc, _+_, _*_, _^_, _≤_, _<_}
-use lib.Dec.{leb, ltb}
+use lib.Dec.{leb}
+use lib.ListN.{length, getD}
 use Rattle.laws.specs.Extremes.{greatest}
 
 -- "F(d) .. is the greatest whole n with n^100 x 10^d <= 10^900" (above 900 that is 0)
@@ -10,6 +13,11 @@ energyRule d n = leb (n ^ 100 * 10 ^ d) (10 ^ 900)
 
 unfoldable pub F : ℕ → ℕ
 F d = greatest 30 (energyRule d)
+
+-- a list of F(0) to F(900)
+pub record Scaled (table : List ℕ) : Type 0 where
+  pub whole : length table ≡ 901
+  pub each : (d : ℕ) → d < 901 → getD table d 0 ≡ F d
 
 -- "H(j) is the least n with n^200 >= 10^(1799 + 2j)"
 unfoldable pub AtLeast : ℕ → ℕ → Type 0

@@ -1,6 +1,6 @@
 // The scaled powers F(d): the energy, in billionths, of what lies d tenths below the greatest.
 ghost use mathlib.Core.Path.{_≡_};
-ghost use Rattle.energy.specs.Energies.{F};
+ghost use Rattle.energy.specs.Energies.{F, Scaled};
 
 // F(0) to F(900).
 const ENERGIES: [u32; 901] = [
@@ -906,6 +906,13 @@ const ENERGIES: [u32; 901] = [
     1,
     1,
 ];
+
+// The whole table, for a walk over many bands: it is laid out anew wherever it is named, so a walk names it once.
+pub fn scaled_powers() -> [u32; 901]
+    ensures { λ r. ⌜ Scaled r ⌝ }
+{
+    ENERGIES
+}
 
 // F(d); above 900 it is 0.
 pub fn energy(d: u32) -> u32

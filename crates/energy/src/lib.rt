@@ -9,5 +9,6 @@ mod steps;
 pub use corrections::background;
 pub use corrections::reverberation;
 pub use energies::energy;
+pub use energies::scaled_powers;
 pub use means::mean_of_three;
 pub use steps::level;

@@ -1,6 +1,5 @@
 // The shared rating over levels: sums, the search for the accepted position, and the sum of energies.
-use energy::energy;
-use energy::level;
+use energy::scaled_powers;
 use quantity::BandSet;
 use quantity::Tenths;
 use quantity::signed::above;
@@ -10,7 +9,7 @@ ghost use mathlib.Core.Bool.{true};
 ghost use Prim.Native.Nat.{ℕ, _+_, _*_, _≤_, _<_};
 ghost use lib.ListN.{length, getD};
 ghost use Rattle.laws.specs.Sums.{sumTo};
-ghost use Rattle.energy.specs.Energies.{u};
+ghost use Rattle.energy.specs.Energies.{F, Scaled};
 ghost use Rattle.quantity.specs.Quantities.{inRange};
 ghost use Rattle.rating.specs.Bands.{accepted};
 ghost use Rattle.rating.specs.Levels.{levelBy, Levels, at, totalAt, leastOf, energiesOf, Settled};
@@ -133,16 +132,28 @@ pub fn least(levels: [u32; 16], bands: usize) -> u32
     least
 }
 
+// F(d) out of the table; above 900 it is 0.
+fn power_at(powers: &[u32; 901], d: u32) -> u32
+    requires { ⌜ Scaled (now powers) ⌝ }
+    ensures { λ r. ⌜ r ≡ F d ⌝ }
+{
+    if 900 < d {
+        return 0;
+    }
+    powers[d as usize]
+}
+
 // The sum of the energies of the levels, m the least of them.
 pub fn energies(levels: [u32; 16], bands: usize, m: u32) -> u64
     requires { ⌜ bands ≤ 16 ⌝ }
     requires { ⌜ ((i : ℕ) → i < bands → m ≤ at levels i) ⌝ }
     ensures { λ r. ⌜ r ≡ energiesOf (at levels) bands m ⌝ }
 {
+    let powers = scaled_powers();
     let mut sum = 0u64;
     let mut i = 0;
     while i < bands {
-        sum += energy(levels[i] - m) as u64;
+        sum += power_at(&powers, levels[i] - m) as u64;
         i += 1;
     }
     sum

@@ -174,20 +174,27 @@ fn sizes(call: Call) -> [usize; 3] {
     }
 }
 
-/// A frame's call with all that it is given.
+/// A frame's call with all that it is given; floats by their bits.
 pub fn shown(frame: &Frame) -> String {
-    let mut text = format!("{:?} of numbers {:?}", frame.call, frame.numbers);
+    let mut text = match frame.call {
+        Call::Reading | Call::Raw => format!("{:?} of numbers {:#x?}", frame.call, frame.numbers),
+        _ => format!("{:?} of numbers {:?}", frame.call, frame.numbers),
+    };
     for (which, size) in sizes(frame.call).into_iter().enumerate() {
-        let contents = match (size, frame.call) {
-            (1, Call::Line | Call::Block) => {
-                format!("{:?}", String::from_utf8_lossy(frame.array::<u8>(which)))
+        let length = frame.parts[which].length;
+        write!(text, ", array {which} of {length}: ").unwrap();
+        match (frame.call, size) {
+            (Call::Line | Call::Block, 1) => {
+                write!(text, "{:?}", frame.array::<u8>(which).escape_ascii().to_string())
             }
-            (1, _) => format!("{:?}", frame.array::<u8>(which)),
-            (2, _) => format!("{} places", frame.parts[which].length),
-            (8, _) => format!("{} places", frame.parts[which].length),
-            _ => format!("{:?}", frame.array::<i32>(which)),
-        };
-        write!(text, ", array {which}: {contents}").unwrap();
+            (_, 1) => write!(text, "{:?}", frame.array::<u8>(which)),
+            (_, 4) if which == 1 && sizes(frame.call)[0] == 1 => {
+                write!(text, "{:x?}", frame.array::<u32>(which))
+            }
+            (_, 4) => write!(text, "{:?}", frame.array::<i32>(which)),
+            _ => write!(text, "(junk)"),
+        }
+        .unwrap();
     }
     text.push('\n');
     text

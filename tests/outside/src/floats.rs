@@ -25,11 +25,14 @@ fn near_tie(seeded: &mut Seeded, low: i32, high: i32, parts: f64) -> f32 {
     stepped(tie, seeded.between(-2, 2))
 }
 
+/// The fractions at the ends: of NaNs the first and the last, signalling and quiet.
+const END_FRACTIONS: [u32; 6] = [1, 0x3f_ffff, 0x40_0000, 0x40_0001, 0x7f_fffe, 0x7f_ffff];
+
 /// NaNs of every payload, infinities, tiny and huge numbers, any bits.
 fn odd(seeded: &mut Seeded) -> f32 {
     let bits = seeded.next() as u32;
     let sign = bits & 1 << 31;
-    let fraction = bits & 0x7f_ffff;
+    let fraction = if seeded.chance(3) { seeded.pick(&END_FRACTIONS) } else { bits & 0x7f_ffff };
     f32::from_bits(match seeded.below(6) {
         0 => sign | 0xff << 23 | fraction.max(1),
         1 => sign | 0xff << 23,
