@@ -102,11 +102,15 @@ def binding_can(case, answer):
 
 # The comparison.
 
+class Differs(Exception):
+    """The program itself found a difference and named it on standard error."""
+
+
 def asked(mode, data, program):
     """What the program answers."""
     done = subprocess.run([program[0], mode, *program[1:]], input=data, stdout=subprocess.PIPE)
     if done.returncode:
-        raise SystemExit(f"outside: {mode} ended with status {done.returncode}")
+        raise Differs(f"{mode} ended with status {done.returncode}")
     return done.stdout
 
 
@@ -146,7 +150,10 @@ def compare_lines(seed, program):
 
 def compare(work):
     which, seed, program = work
-    return which(seed, program)
+    try:
+        return which(seed, program)
+    except Differs as differs:
+        return 0, str(differs)
 
 
 def main():

@@ -1,4 +1,4 @@
-//! Rates a wall, and says which bands to lift for a better rating:
+//! Rates a wall, and says which bands to lift for a rating one decibel better:
 //!
 //! ```text
 //! cargo run --example wall
@@ -22,8 +22,10 @@ fn main() -> Result<(), Refusal> {
     println!("rating {}, C {}, {} shifts", sheet.rating, sheet.first, sheet.shifts);
     let mut target = sheet.rating;
     target.0 += 1;
-    for mask in lift(Kind::A3, &wall, target)? {
-        println!("{target} with {} lifted", bands(mask));
+    let sets = lift(Kind::A3, &wall, target)?;
+    println!("{} sets of bands would lift it to {target}, among them", sets.len());
+    for &mask in sets.iter().take(3) {
+        println!("  {}", bands(mask));
     }
     Ok(())
 }

@@ -8,9 +8,8 @@ use rating::Kind;
 use rating::Rated;
 use rating::numbers_of;
 ghost use mathlib.Core.Path.{_≡_};
-ghost use Rattle.intake.specs.Taken.{takenOf};
-ghost use Rattle.rating.specs.Sheets.{ratedOf};
-ghost use Rattle.desk.specs.Calls.{readingsRated};
+ghost use Rattle.desk.specs.Quantities.{takenOf};
+ghost use Rattle.desk.specs.Calls.{ratedOf, readingsRated};
 
 // One reading in tenths with its limit mark, or 3, 2, 4 in that order.
 pub fn take_reading(reading: Reading) -> Taken
@@ -37,7 +36,7 @@ pub fn rate_readings(kind: Kind, readings: [Reading; 48], len: usize) -> Rated
         Outcome::Refused(refusal) => Rated::Refused(refusal),
         Outcome::Accepted => {
             let set = list.set;
-            rating::rate(kind, set)
+            rate(kind, set)
         }
     }
 }

@@ -1,13 +1,13 @@
--- Numbers of kinds, marks and flags, read back by the tests that lead there. Assumes nothing.
-use mathlib.Core.Path.{_≡_, refl, sym, _∙_, ap}
-use mathlib.Core.Bool.{Bool, true, false}
+-- Numbers of kinds, marks and sides, read back by the tests that lead there. Assumes nothing.
+use mathlib.Core.Path.{_≡_, refl}
 use Prim.Native.Nat.{ℕ, zero, suc}
-use native.Mathlib.Omega.{arith}
 use lib.Ieee.{Float}
 use Rattle.quantity.specs.declared.quantities.Reading.the-variants.{Missing}
+use Rattle.rooms.specs.declared.grades.Side.the-variants.{Inside}
 use Rattle.desk_c.specs.declared.kinds.Named.the-variants.{Unknown}
 use Rattle.desk_c.specs.Lists.{readingFrom}
 use Rattle.desk_c.specs.Ratings.{kindOf}
+use Rattle.desk_c.specs.Rooms.{sideOf}
 
 pub unknown : (n : ℕ) → (n ≡ 0 → ⊥) → (n ≡ 1 → ⊥) → (n ≡ 2 → ⊥) → (n ≡ 3 → ⊥) → Unknown ≡ kindOf n
 unknown zero a b c d = absurd (a refl)
@@ -20,3 +20,7 @@ pub missing : (m : ℕ) (x : Float) → (m ≡ 0 → ⊥) → (m ≡ 1 → ⊥) 
 missing zero x a b = absurd (a refl)
 missing (suc zero) x a b = absurd (b refl)
 missing (suc (suc m)) x a b = refl
+
+pub inside : (n : ℕ) → (n ≡ 0 → ⊥) → Inside ≡ sideOf n
+inside zero a = absurd (a refl)
+inside (suc n) a = refl

@@ -1,11 +1,13 @@
--- The count of shifts of every rating is at most 500, by the bound in its definition, so it fits an answer. Assumes nothing.
+-- The count of shifts of every rating is at most 500, by the bound in its definition, and every grade at most 6, so that they
+-- fit an answer. Assumes nothing.
 use mathlib.Core.Path.{_≡_, refl, sym, _∙_, ap, subst}
 use mathlib.Core.Bool.{Bool, true, false, cond}
 use mathlib.Core.List.{List}
 use Prim.Native.Nat.{ℕ, zero, suc, _+_, _≤_}
 use native.Mathlib.Omega.{arith}
 use lib.Dec.{eqb}
-use lib.IntN.{ℤ}
+use lib.IntN.{ℤ, pos}
+use lib.Signed.{ltZ}
 use Rattle.quantity.specs.Quantities.{bandOf}
 use Rattle.quantity.specs.declared.quantities.BandSet.{BandSet}
 use Rattle.quantity.specs.declared.quantities.Reading.{Reading}
@@ -14,13 +16,19 @@ use Rattle.intake.specs.declared.lists.Outcome.{Outcome}
 use Rattle.intake.specs.declared.lists.Outcome.the-variants as outcome
 use Rattle.intake.specs.Lists.{listOf}
 use Rattle.rating.specs.declared.kinds.Kind.{Kind}
+use Rattle.rating.specs.declared.kinds.Kind.the-variants.{A3}
+use Rattle.rating.specs.declared.sheets.Rated.{Rated}
 use Rattle.rating.specs.declared.sheets.Rated.the-variants.{Rating, Refused}
 use Rattle.rating.specs.Kinds.{bandsOf}
 use Rattle.rating.specs.Bands.{accepted}
 use Rattle.rating.specs.Curve.{firstFrom, shiftsOf, within, shifted, startOf}
 use Rattle.rating.specs.Sheets.{asked, sheetOf, ratedOf}
+use Rattle.rooms.specs.declared.grades.Side.{Side}
+use Rattle.rooms.specs.Sets.{specimensOf}
+use Rattle.rooms.specs.Grades.{gradeOf, decidingOf, gradedBy, graded, gradesOf}
 use Rattle.desk.specs.Calls.{ratedBy, readingsRated}
 use Rattle.desk_c.specs.Ratings.{Fitting}
+use Rattle.desk_c.specs.Rooms.{GradeFits}
 
 first-bound : (ok : ℕ → Bool) (tries s : ℕ) → firstFrom ok tries s ≤ s + tries
 unfolding firstFrom
@@ -50,4 +58,28 @@ readings-fit k readings len = go (listOf readings len (bandsOf k) .set) (listOf 
   where
     go : (s : BandSet) (o : Outcome) → Fitting (ratedBy k s o)
     go s outcome.Accepted = rated-fits k s
+    go s (outcome.Refused r) = tt
+
+-- ---- grades
+
+grade-bound : (z : ℤ) → gradeOf z ≤ 6
+unfolding gradeOf
+grade-bound z =
+    go (ltZ z (pos 20)) (go (ltZ z (pos 25)) (go (ltZ z (pos 30)) (go (ltZ z (pos 35)) (go (ltZ z (pos 40))
+    (go (ltZ z (pos 45)) (omega arith) (omega arith)) (omega arith)) (omega arith)) (omega arith)) (omega arith)) (omega arith)
+  where
+    go : (b : Bool) {m n : ℕ} → n ≤ 6 → m ≤ 6 → cond b m n ≤ 6
+    go true h k = k
+    go false h k = h
+
+pub grades-fit : (readings : List Reading) (len : ℕ) (side : Side) → GradeFits (gradesOf readings len side)
+unfolding gradesOf
+grades-fit readings len side = go (specimensOf readings len .set) (specimensOf readings len .outcome)
+  where
+    by : (r : Rated) → GradeFits (gradedBy side r)
+    by (Rating sheet) = grade-bound (decidingOf side sheet)
+    by (Refused r) = tt
+
+    go : (s : BandSet) (o : Outcome) → GradeFits (graded side s o)
+    go s outcome.Accepted = by (ratedOf A3 s)
     go s (outcome.Refused r) = tt

@@ -63,3 +63,10 @@ module _ {A : Type 0} (d : A) where
   written-not answer n before h r =
       let short = lt-leb (length (take n answer)) (length before) (omega (arith, length-take-le n answer h)) in
       (rw short refl, rw short refl)
+
+  -- an answer of one number, stored
+  pub stored : (before : List A) (v : A) → 1 ≤ length before
+      → (0 ≡ returned (numbers (v ∷ [])) (length before)) × (set before 0 v ≡ held (numbers (v ∷ [])) before)
+  stored before v h =
+      let fits = le-leb 1 (length before) h in
+      (rw fits refl, front-more [] before v 0 refl (omega arith) ∙ rw fits refl)

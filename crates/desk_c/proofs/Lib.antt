@@ -4,3 +4,4 @@ pub mod Doors
 pub mod Listing
 pub mod Fits
 pub mod Gives
+pub mod Lifting

@@ -2,16 +2,17 @@
 -- array of a fixed length from a function of the index are one law. Assumes nothing.
 use mathlib.Core.Path.{_≡_, refl, sym, _∙_, ap}
 use mathlib.Core.Bool.{Bool, cond}
-use mathlib.Core.List.{List, [], _∷_}
+use mathlib.Core.List.{List, [], _∷_, _++_}
 use Prim.Native.Nat.{ℕ, zero, suc, _+_, _≤_, _<_}
 use native.Mathlib.Nat.{add-zero, zero-add}
+use native.Mathlib.Numerals.{add-one}
 use native.Mathlib.Decide.{ℕ-discrete}
 use native.Mathlib.Omega.{arith}
 use borrow.Author.Tests.{lt-ltb, le-ltb}
 use lib.Ieee.{Float, nan}
 use lib.IntN.{ℤ, pos}
-use lib.ListN.{length, getD, set, length-set}
-use lib.Seq.{getD-set-same, getD-set-other, ext-getD}
+use lib.ListN.{length, getD, take, set, length-set}
+use lib.Seq.{getD-set-same, getD-set-other, getD-take, take-suc-set, length-take-le, ext-getD}
 use Rattle.quantity.specs.declared.quantities.Reading.{Reading}
 use Rattle.quantity.specs.declared.quantities.Reading.the-variants.{Missing}
 use Rattle.desk_c.specs.Lists.{listed, readingFrom, readingAt}
@@ -62,6 +63,18 @@ module _ {A : Type 0} (d : A) (f : ℕ → A) where
   agreed-all k l i h a =
       ext-getD d l (listed f k 0) (a .whole ∙ sym (length-listed k 0))
       (λ j g. a .same j (omega (arith, a .whole, a .within)) ∙ ap f (sym (zero-add j)) ∙ sym (getD-listed k 0 j (omega (arith, a .whole))))
+
+  -- the first n of a longer list, with one more stored after them
+  pub agreed-then : (k : ℕ) (l : List A) (n i : ℕ) (v : A) → n < k → n ≤ i → i ≤ n → Agreed k l i → take (n + 1) (set l n v) ≡ listed f n 0 ++ (v ∷ [])
+  agreed-then k l n i v h g b a =
+      ap (λ (m : ℕ). take m (set l n v)) (add-one n)
+      ∙ take-suc-set l n v (omega (arith, a .whole))
+      ∙ ap (λ (t : List A). t ++ (v ∷ []))
+      (agreed-all n (take n l) n (omega arith) (record {
+        within = omega arith;
+        whole = length-take-le n l (omega (arith, a .whole));
+        same = λ j q. getD-take n l j d q ∙ a .same j (omega arith);
+      }))
 
 -- ---- a reading of two arrays
 

@@ -2,3 +2,5 @@
 pub mod Answers
 pub mod Lists
 pub mod Ratings
+pub mod Rooms
+pub mod Lifts

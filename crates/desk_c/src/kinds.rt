@@ -1,7 +1,9 @@
-// Kinds by their numbers.
+// Kinds and sides by their numbers.
 use rating::Kind;
+use rooms::Side;
 ghost use mathlib.Core.Path.{_≡_};
 ghost use Rattle.desk_c.specs.Ratings.{kindOf};
+ghost use Rattle.desk_c.specs.Rooms.{sideOf};
 
 pub enum Named {
     Is(Kind),
@@ -25,4 +27,14 @@ pub fn kind_of(number: u32) -> Named
         return Named::Is(Kind::I1);
     }
     Named::Unknown
+}
+
+// 0 outside, any other number inside.
+pub fn side_of(number: u32) -> Side
+    ensures { λ r. ⌜ r ≡ sideOf number ⌝ }
+{
+    if number == 0 {
+        return Side::Outside;
+    }
+    Side::Inside
 }

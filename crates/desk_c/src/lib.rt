@@ -5,9 +5,19 @@
 // last. The promise of each says what it returns and what every lent array holds afterwards, for all inputs.
 mod given;
 mod kinds;
+mod lifts;
 mod lists;
+mod measured;
 mod ratings;
 
+pub use lifts::imbrolt_lift;
+pub use measured::imbrolt_cover;
+pub use measured::imbrolt_field;
+pub use measured::imbrolt_grade;
+pub use measured::imbrolt_laboratory;
+pub use measured::imbrolt_octaves;
+pub use measured::imbrolt_raw;
+pub use measured::imbrolt_specimens;
 pub use ratings::imbrolt_rate;
 pub use ratings::imbrolt_rate_readings;
 pub use ratings::imbrolt_reading;

@@ -185,7 +185,7 @@ pub fn shown(frame: &Frame) -> String {
         write!(text, ", array {which} of {length}: ").unwrap();
         match (frame.call, size) {
             (Call::Line | Call::Block, 1) => {
-                write!(text, "{:?}", frame.array::<u8>(which).escape_ascii().to_string())
+                write!(text, "\"{}\"", frame.array::<u8>(which).escape_ascii())
             }
             (_, 1) => write!(text, "{:?}", frame.array::<u8>(which)),
             (_, 4) if which == 1 && sizes(frame.call)[0] == 1 => {

@@ -59,19 +59,12 @@ impl Frame {
         unsafe { std::slice::from_raw_parts(self.memory.as_ptr().byte_add(start).cast(), length) }
     }
 
-    fn array_mut<T: Element>(&mut self, part: usize) -> &mut [T] {
-        let Part { start, length } = self.within::<T>(part);
-        // Safe: as above.
-        unsafe {
-            std::slice::from_raw_parts_mut(self.memory.as_mut_ptr().byte_add(start).cast(), length)
-        }
-    }
-
     /// Three arrays of the frame, each to read or to write.
     pub fn arrays<A: Element, B: Element, C: Element>(&mut self) -> (&mut [A], &mut [B], &mut [C]) {
-        let this: *mut Frame = self;
-        // Safe: the arrays of a frame do not overlap.
-        unsafe { ((*this).array_mut(0), (*this).array_mut(1), (*this).array_mut(2)) }
+        let [a, b, c] = [self.within::<A>(0), self.within::<B>(1), self.within::<C>(2)];
+        let memory = self.memory.as_mut_ptr();
+        // Safe: as above, and the arrays of a frame do not overlap.
+        unsafe { (lent(memory, a), lent(memory, b), lent(memory, c)) }
     }
 
     fn within<T>(&self, part: usize) -> Part {
@@ -86,6 +79,11 @@ impl Frame {
         // Safe: any number is eight bytes.
         unsafe { std::slice::from_raw_parts(self.memory.as_ptr().cast(), 8 * self.memory.len()) }
     }
+}
+
+/// An array of a memory, for as long as the memory is borrowed.
+unsafe fn lent<'a, T: Element>(memory: *mut u64, part: Part) -> &'a mut [T] {
+    unsafe { std::slice::from_raw_parts_mut(memory.byte_add(part.start).cast(), part.length) }
 }
 
 /// Puts a frame together, with junk before, between and after its arrays.
@@ -126,10 +124,11 @@ impl Builder<'_> {
 
     /// An array with these contents.
     pub fn give<T: Element>(self, contents: &[T]) -> Self {
-        let mut lent = self.lend::<T>(contents.len());
-        let part = lent.parts - 1;
-        lent.frame.array_mut(part).copy_from_slice(contents);
-        lent
+        let mut builder = self.lend::<T>(contents.len());
+        let part = builder.frame.parts[builder.parts - 1];
+        // Safe: the array was just made for elements of this type.
+        unsafe { lent(builder.frame.memory.as_mut_ptr(), part) }.copy_from_slice(contents);
+        builder
     }
 
     pub fn done(self) -> Frame {

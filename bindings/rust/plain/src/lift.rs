@@ -63,8 +63,8 @@ fn minimal_sets<const N: usize>(gains: &[i32; N], need: i32, list: &mut [u16]) -
         count += 1;
     };
     let mut alone = 0u16;
-    for band in 0..N {
-        if gains[band] >= need {
+    for (band, &gain) in gains.iter().enumerate() {
+        if gain >= need {
             alone |= 1 << band;
             put(1 << band);
         }

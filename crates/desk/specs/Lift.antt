@@ -1,0 +1,11 @@
+-- Document 01, "The lift list".
+
+-- sets of bands and their order
+unfoldable pub use Rattle.lift.specs.Masks.{bandsIn, size, isMask, part, smaller, before, choose, masksInOrder, filter}
+-- what a set reaches, and which sets are listed
+pub use Rattle.lift.specs.Reach.{betterBy, meetsBy, highest, Listed}
+unfoldable pub use Rattle.lift.specs.Reach.{lifted, reaches, listedMask, liftList}
+-- the call: its answer, and the lent buffer afterwards
+pub use Rattle.lift.specs.declared.lists.Lifted.{Lifted}
+pub use Rattle.lift.specs.Calls.{placesOf, bufferBy, LiftIs}
+unfoldable pub use Rattle.lift.specs.Calls.{inTargets, countOf, answerOf, front}

@@ -1,0 +1,254 @@
+-- The block call, turn by turn: the line feed that is looked for, the next piece, and what a turn leaves. Assumes nothing.
+use mathlib.Core.Path.{_≡_, refl, sym, _∙_, ap, subst}
+use mathlib.Core.Bool.{Bool, true, false, cond, _&&_}
+use mathlib.Core.List.{List, [], _∷_, _++_, append-assoc, append-nil}
+use Prim.Native.Nat.{ℕ, zero, suc, _+_, _-_, _≤_, _<_}
+use native.Mathlib.Omega.{arith}
+use borrow.Author.Tests.{le-leb, lt-leb, leb-true, leb-false, lt-ltb, le-ltb, eq-eqb, ne-eqb, eqb-true, eqb-false}
+use lib.Dec.{leb, ltb, eqb}
+use lib.ListN.{length, getD, take, drop, length-drop, length-append, drop-of-length-le, take-append-drop}
+use lib.Seq.{drop-cons, take-at, drop-at, drop-drop}
+use Rattle.quantity.specs.declared.refusals.Refusal.{Refusal}
+use Rattle.quantity.specs.declared.refusals.Refusal.the-variants.{NoRoom}
+use Rattle.line.specs.declared.requests.Reply.{Reply}
+use Rattle.line.specs.declared.lines.Wrote.{Wrote}
+use Rattle.line.specs.declared.lines.Wrote.the-variants as wrote
+use Rattle.line.specs.declared.blocks.Piece.{Piece}
+use Rattle.line.specs.declared.blocks.Turn.{Turn}
+use Rattle.line.specs.Reading.{byteAt, Asked, requestAt}
+use Rattle.line.specs.Reading.Asked.{asked}
+use Rattle.line.specs.Answers.{front, fitsAt, placed, wroteOf, judged, noReply, replyTo, replyAt, replyText, Keyed}
+use Rattle.line.specs.Blocks.{oneMore, feedIn, movedBy, feedAfter, restPiece, feedPiece, pieceAt, Step, skipBy, answerBy, stepAt, Block, blockFrom, blockOf, Turned, Answered}
+use Rattle.line.proofs.Stands.{fits}
+use Rattle.line.proofs.Wholes.{RequestAt, RequestGood, request-ok, text-length}
+use Rattle.line.proofs.Replies.{reply-keyed}
+use Rattle.line.proofs.Placing.{none-keyed}
+
+-- ---- the next line feed
+pub feed-cons : (b : ℕ) (s : List ℕ) (t : Bool) → eqb b 10 ≡ t → feedIn (b ∷ s) ≡ cond t 1 (oneMore (feedIn s))
+unfolding feedIn
+feed-cons b s true e = rw (e, feedIn)
+feed-cons b s false e = rw (e, feedIn)
+
+module _ (s : List ℕ) (i : ℕ) where
+  pub feed-here : i < length s → byteAt s i ≡ 10 → i + 1 ≡ feedAfter s i
+  unfolding feedAfter
+  feed-here h e =
+      sym (ap (λ (l : List ℕ). movedBy i (feedIn l)) (drop-cons s i 0 h) ∙ ap (movedBy i) (feed-cons (byteAt s i) (drop (suc i) s) true (eq-eqb (byteAt s i) 10 e)))
+
+  pub feed-later : i < length s → (byteAt s i ≡ 10 → ⊥) → feedAfter s i ≡ feedAfter s (i + 1)
+  unfolding feedAfter
+  feed-later h f =
+      ap (λ (l : List ℕ). movedBy i (feedIn l)) (drop-cons s i 0 h)
+      ∙ ap (movedBy i) (feed-cons (byteAt s i) (drop (suc i) s) false (ne-eqb (byteAt s i) 10 f))
+      ∙ shift (feedIn (drop (suc i) s))
+      ∙ ap (λ (k : ℕ). movedBy (i + 1) (feedIn (drop k s))) (next i)
+    where
+      next : (i : ℕ) → suc i ≡ i + 1
+      next i = omega arith
+      shift : (n : ℕ) → movedBy i (oneMore n) ≡ movedBy (i + 1) n
+      shift zero = refl
+      shift (suc n) = omega arith
+
+  pub feed-out : length s ≤ i → 0 ≡ feedAfter s i
+  unfolding feedAfter feedIn
+  feed-out h = sym (ap (λ (l : List ℕ). movedBy i (feedIn l)) (drop-of-length-le s h))
+
+pub feed-most : (l : List ℕ) → feedIn l ≤ length l
+unfolding feedIn
+feed-most [] = omega arith
+feed-most (b ∷ l) = go (eqb b 10) refl (feedIn l) refl (feed-most l)
+  where
+    go : (t : Bool) → eqb b 10 ≡ t → (n : ℕ) → feedIn l ≡ n → n ≤ length l → feedIn (b ∷ l) ≤ suc (length l)
+    go true e n f h = subst (λ (k : ℕ). k ≤ suc (length l)) (sym (feed-cons b l true e)) (omega arith)
+    go false e zero f h = subst (λ (k : ℕ). k ≤ suc (length l)) (sym (feed-cons b l false e ∙ ap oneMore f)) (omega arith)
+    go false e (suc n) f h = subst (λ (k : ℕ). k ≤ suc (length l)) (sym (feed-cons b l false e ∙ ap oneMore f)) (omega arith)
+
+-- it lies ahead, and within
+pub feed-bounds : (s : List ℕ) (at e : ℕ) → feedAfter s at ≡ suc e → (at < suc e) × (suc e ≤ length s)
+unfolding feedAfter
+feed-bounds s at e f = go (feedIn (drop at s)) refl f
+  where
+    go : (n : ℕ) → feedIn (drop at s) ≡ n → movedBy at n ≡ suc e → (at < suc e) × (suc e ≤ length s)
+    go zero p q = absurd (omega arith)
+    go (suc n) p q = (omega arith, omega (arith, feed-most (drop at s), length-drop at s))
+
+-- ---- pieces
+module _ (s : List ℕ) (at : ℕ) (last : Bool) (r : Reply) (e : r ≡ replyAt s at) where
+  by-none : (p : Piece) → r .next ≡ 0 → p ≡ feedPiece at (length s) (feedAfter s at) last → p ≡ pieceAt s at last
+  unfolding pieceAt
+  by-none p z f =
+      f ∙ sym (ap (λ (t : Bool). cond t (feedPiece at (length s) (feedAfter s at) last) (record { next = replyAt s at .next; skipping = false; reply = replyAt s at }))
+        (eq-eqb (replyAt s at .next) 0 (sym (ap (λ (x : Reply). x .next) e) ∙ z)))
+
+  pub piece-some : (r .next ≡ 0 → ⊥) → record { next = r .next; skipping = false; reply = r } ≡ pieceAt s at last
+  unfolding pieceAt
+  piece-some z =
+      ap (λ (x : Reply). record { next = x .next; skipping = false; reply = x }) e
+      ∙ sym (ap (λ (t : Bool). cond t (feedPiece at (length s) (feedAfter s at) last) (record { next = replyAt s at .next; skipping = false; reply = replyAt s at }))
+        (ne-eqb (replyAt s at .next) 0 (λ q. z (ap (λ (x : Reply). x .next) e ∙ q))))
+
+  pub piece-feed : (f : ℕ) → r .next ≡ 0 → f ≡ feedAfter s at → (f ≡ 0 → ⊥) → record { next = f; skipping = false; reply = noReply } ≡ pieceAt s at last
+  piece-feed zero z g n = absurd (n refl)
+  piece-feed (suc f) z g n = by-none (record { next = suc f; skipping = false; reply = noReply }) z (ap (λ (k : ℕ). feedPiece at (length s) k last) g)
+
+  by-rest : (f : ℕ) (p : Piece) → r .next ≡ 0 → f ≡ feedAfter s at → f ≡ 0 → p ≡ restPiece at (length s) last → p ≡ pieceAt s at last
+  by-rest f p z g n q = by-none p z (q ∙ ap (λ (k : ℕ). feedPiece at (length s) k last) (sym n ∙ g))
+
+  pub piece-long : (f : ℕ) → r .next ≡ 0 → f ≡ feedAfter s at → f ≡ 0 → at ≤ length s → 512 ≤ length s - at
+      → record { next = length s; skipping = true; reply = noReply } ≡ pieceAt s at last
+  piece-long f z g n i h = by-rest f (record { next = length s; skipping = true; reply = noReply }) z g n (rw (le-leb (at + 512) (length s) (omega arith)))
+
+  pub piece-last : (f : ℕ) → r .next ≡ 0 → f ≡ feedAfter s at → f ≡ 0 → at ≤ length s → length s - at < 512 → last ≡ true
+      → record { next = length s; skipping = false; reply = noReply } ≡ pieceAt s at last
+  piece-last f z g n i h l = by-rest f (record { next = length s; skipping = false; reply = noReply }) z g n (rw (lt-leb (at + 512) (length s) (omega arith), l))
+
+  pub piece-wait : (f : ℕ) → r .next ≡ 0 → f ≡ feedAfter s at → f ≡ 0 → at ≤ length s → length s - at < 512 → last ≡ false
+      → record { next = at; skipping = false; reply = noReply } ≡ pieceAt s at last
+  piece-wait f z g n i h l = by-rest f (record { next = at; skipping = false; reply = noReply }) z g n (rw (lt-leb (at + 512) (length s) (omega arith), l))
+
+-- a reply's request lies ahead, and within
+reply-ahead : (s : List ℕ) (at : ℕ) → (replyAt s at .next ≡ 0 → ⊥) → (at < replyAt s at .next) × (replyAt s at .next ≤ length s)
+unfolding replyAt replyTo
+reply-ahead s at = go (requestAt s at) (request-ok s at)
+  where
+    go : (a : Asked) → RequestGood s at a → (replyTo at a .next ≡ 0 → ⊥) → (at < replyTo at a .next) × (replyTo at a .next ≤ length s)
+    go Asked.nothing g z = absurd (z refl)
+    go (asked kind key bands next) g z = by-length (leb next (at + 512)) z
+      where
+        reply : Reply
+        reply = record { next = next; kind = kind; key = at + 3; len = length key; rated = judged kind bands }
+        by-length : (t : Bool) → (cond t reply noReply .next ≡ 0 → ⊥) → (at < cond t reply noReply .next) × (cond t reply noReply .next ≤ length s)
+        by-length true z =
+            ( omega (arith, g .ends, text-length kind key bands)
+            , omega (arith, g .ends, fits s (Rattle.line.specs.Texts.requestText kind key bands) at (omega (arith, text-length kind key bands)) (g .stands)) )
+        by-length false z = absurd (z refl)
+
+pub record PieceGood (s : List ℕ) (at : ℕ) (p : Piece) : Type 0 where
+  pub ahead : at ≤ p .next
+  pub within : p .next ≤ length s
+  pub keyed : Keyed s (p .reply)
+
+pub piece-good : (s : List ℕ) (at : ℕ) (last : Bool) → at ≤ length s → PieceGood s at (pieceAt s at last)
+unfolding pieceAt
+piece-good s at last h = go (eqb (replyAt s at .next) 0) refl
+  where
+    rest : (t u : Bool) → PieceGood s at (cond t (record { next = length s; skipping = true; reply = noReply })
+        (cond u (record { next = length s; skipping = false; reply = noReply }) (record { next = at; skipping = false; reply = noReply })))
+    rest true u = record { ahead = h; within = omega arith; keyed = none-keyed s }
+    rest false true = record { ahead = h; within = omega arith; keyed = none-keyed s }
+    rest false false = record { ahead = omega arith; within = h; keyed = none-keyed s }
+    by-feed : (n : ℕ) → feedAfter s at ≡ n → PieceGood s at (feedPiece at (length s) n last)
+    by-feed zero e = rest (leb (at + 512) (length s)) last
+    by-feed (suc n) e = record { ahead = omega (arith, feed-bounds s at n e); within = feed-bounds s at n e .1; keyed = none-keyed s }
+    go : (t : Bool) → eqb (replyAt s at .next) 0 ≡ t
+        → PieceGood s at (cond t (feedPiece at (length s) (feedAfter s at) last) (record { next = replyAt s at .next; skipping = false; reply = replyAt s at }))
+    go true e = by-feed (feedAfter s at) refl
+    go false e =
+        let b = reply-ahead s at (eqb-false (replyAt s at .next) 0 e) in
+        record { ahead = omega arith; within = b .1; keyed = reply-keyed s at (replyAt s at) refl }
+
+-- ---- turns
+pub none-placed : (out : List ℕ) (w : ℕ) → out ≡ take w out ++ ([] ++ drop (w + 0) out)
+none-placed out w = sym (ap (λ (n : ℕ). take w out ++ drop n out) (on w) ∙ take-append-drop w out)
+  where
+    on : (w : ℕ) → w + 0 ≡ w
+    on w = omega arith
+
+idle : (out : List ℕ) (w : ℕ) (r : Turn) (next : ℕ) (skipping : Bool) → w ≤ length out → r ≡ record { next = next; wrote = w; skipping = skipping }
+    → Turned (record { next = next; text = []; skipping = skipping }) out w r out
+idle out w r next skipping h e = record {
+  next = ap (λ (x : Turn). x .next) e;
+  wrote-is = ap (λ (x : Turn). x .wrote) e ∙ omega arith;
+  skipping = ap (λ (x : Turn). x .skipping) e;
+  out = none-placed out w;
+  fits = omega arith }
+
+module _ (s : List ℕ) (at : ℕ) (out : List ℕ) (w : ℕ) (skipping last : Bool) (room : w ≤ length out) where
+  abbrev step : Step
+  step = stepAt s at (length out - w) skipping last
+
+  by-step : (x : Step) (r : Turn) (after : List ℕ) → step ≡ x → Turned x out w r after → Turned step out w r after
+  by-step x r after e t = subst (λ (y : Step). Turned y out w r after) (sym e) t
+
+  skip-step : skipping ≡ true → step ≡ skipBy (length s) (feedAfter s at)
+  unfolding stepAt
+  skip-step e = rw e
+
+  ask-step : skipping ≡ false → step ≡ answerBy s at (length out - w) (pieceAt s at last)
+  unfolding stepAt
+  ask-step e = rw e
+
+  pub turn-past : (f : ℕ) → skipping ≡ true → f ≡ feedAfter s at → f ≡ 0 → Turned step out w (record { next = length s; wrote = w; skipping = true }) out
+  turn-past f e g z =
+      by-step (record { next = length s; text = []; skipping = true }) (record { next = length s; wrote = w; skipping = true }) out
+      (skip-step e ∙ ap (skipBy (length s)) (sym g ∙ z)) (idle out w (record { next = length s; wrote = w; skipping = true }) (length s) true room refl)
+
+  pub turn-skipped : (f : ℕ) → skipping ≡ true → f ≡ feedAfter s at → (f ≡ 0 → ⊥) → Turned step out w (record { next = f; wrote = w; skipping = false }) out
+  turn-skipped zero e g z = absurd (z refl)
+  turn-skipped (suc f) e g z =
+      by-step (record { next = suc f; text = []; skipping = false }) (record { next = suc f; wrote = w; skipping = false }) out
+      (skip-step e ∙ ap (skipBy (length s)) (sym g)) (idle out w (record { next = suc f; wrote = w; skipping = false }) (suc f) false room refl)
+
+  abbrev still : Step
+  still = record { next = at; text = []; skipping = false }
+
+  pub turn-none : (p : Piece) → skipping ≡ false → p ≡ pieceAt s at last → p .next ≡ at → Turned step out w (record { next = at; wrote = w; skipping = false }) out
+  turn-none p e g z =
+      by-step still (record { next = at; wrote = w; skipping = false }) out
+      (ask-step e ∙ ap (answerBy s at (length out - w)) (sym g) ∙ rw (eq-eqb (p .next) at z))
+      (idle out w (record { next = at; wrote = w; skipping = false }) at false room refl)
+
+  module _ (p : Piece) (e : skipping ≡ false) (g : p ≡ pieceAt s at last) (z : p .next ≡ at → ⊥) (x : Wrote) (after : List ℕ)
+      (wrote-is : x ≡ wroteOf out w (replyText s (p .reply))) (after-is : after ≡ placed out w (replyText s (p .reply))) where
+    text : List ℕ
+    text = replyText s (p .reply)
+
+    some : step ≡ cond (leb (length (replyText s (p .reply))) (length out - w)) (record { next = p .next; text = replyText s (p .reply); skipping = p .skipping }) still
+    some = ask-step e ∙ ap (answerBy s at (length out - w)) (sym g) ∙ rw (ne-eqb (p .next) at z)
+
+    fitting : (t : Bool) → leb (w + length (replyText s (p .reply))) (length out) ≡ t
+        → x ≡ cond t (wrote.Bytes (length (replyText s (p .reply)))) (wrote.Refused NoRoom)
+    unfolding wroteOf fitsAt
+    fitting t h = wrote-is ∙ ap (λ (b : Bool). cond b (wrote.Bytes (length (replyText s (p .reply)))) (wrote.Refused NoRoom)) h
+
+    pub turn-full : (r : Refusal) → x ≡ wrote.Refused r → Turned step out w (record { next = at; wrote = w; skipping = false }) after
+    unfolding placed fitsAt
+    turn-full r f = go (leb (w + length (replyText s (p .reply))) (length out)) refl
+      where
+        go : (t : Bool) → leb (w + length (replyText s (p .reply))) (length out) ≡ t → Turned step out w (record { next = at; wrote = w; skipping = false }) after
+        go true h =
+            let q : wrote.Refused r ≡ wrote.Bytes (length (replyText s (p .reply))) = sym f ∙ fitting true h in
+            let n : _≡_ {A = ℕ} 0 1 = cc in absurd (omega arith)
+        go false h =
+            subst (λ (l : List ℕ). Turned step out w (record { next = at; wrote = w; skipping = false }) l)
+            (sym (after-is ∙ ap (λ (b : Bool). cond b (take w out ++ (replyText s (p .reply) ++ drop (w + length (replyText s (p .reply))) out)) out) h))
+            (by-step still (record { next = at; wrote = w; skipping = false }) out
+              (some ∙ ap (λ (b : Bool). cond b (record { next = p .next; text = replyText s (p .reply); skipping = p .skipping }) still)
+                (lt-leb (length (replyText s (p .reply))) (length out - w) (omega (arith, leb-false (w + length (replyText s (p .reply))) (length out) h))))
+              (idle out w (record { next = at; wrote = w; skipping = false }) at false room refl))
+
+    pub turn-told : (n : ℕ) → x ≡ wrote.Bytes n
+        → (w + n ≤ length out) × Turned step out w (record { next = p .next; wrote = w + n; skipping = p .skipping }) after
+    unfolding placed fitsAt
+    turn-told n f = go (leb (w + length (replyText s (p .reply))) (length out)) refl
+      where
+        go : (t : Bool) → leb (w + length (replyText s (p .reply))) (length out) ≡ t
+            → (w + n ≤ length out) × Turned step out w (record { next = p .next; wrote = w + n; skipping = p .skipping }) after
+        go false h =
+            let q : wrote.Bytes n ≡ wrote.Refused NoRoom = sym f ∙ fitting false h in
+            let k : _≡_ {A = ℕ} 0 1 = cc in absurd (omega arith)
+        go true h =
+            let fit : w + length (replyText s (p .reply)) ≤ length out = leb-true (w + length (replyText s (p .reply))) (length out) h in
+            let q : wrote.Bytes n ≡ wrote.Bytes (length (replyText s (p .reply))) = sym f ∙ fitting true h in
+            let m : n ≡ length (replyText s (p .reply)) = cc in
+            ( omega arith
+            , by-step (record { next = p .next; text = replyText s (p .reply); skipping = p .skipping }) (record { next = p .next; wrote = w + n; skipping = p .skipping }) after
+              (some ∙ ap (λ (b : Bool). cond b (record { next = p .next; text = replyText s (p .reply); skipping = p .skipping }) still)
+                (le-leb (length (replyText s (p .reply))) (length out - w) (omega arith)))
+              (record {
+                next = refl;
+                wrote-is = ap (λ (k : ℕ). w + k) m;
+                skipping = refl;
+                out = after-is ∙ ap (λ (b : Bool). cond b (take w out ++ (replyText s (p .reply) ++ drop (w + length (replyText s (p .reply))) out)) out) h;
+                fits = fit }) )

@@ -1,0 +1,37 @@
+use mathlib.Core.Path.{_≡_, sym, _∙_, ap, subst}
+use Rattle.line.specs.Answers.{replyText, Keyed}
+use Rattle.line.proofs.Replies.{reply-keyed}
+use Rattle.line.proofs.Placing.{line-whole, line-other, none-keyed}
+use borrow.Author.Needs.{needs}
+use Rattle.line.proofs.lines.line_reply.Statement.{statement}
+use Rattle.line.proofs.lines.line_reply.Tie as tie
+use Rattle.line.proofs.lines.line_reply.Reads as reads
+use Rattle.line.proofs.lines.line_reply.Lts as lts
+use Rattle.line.proofs.requests.no_reply.Reads as no-reply-reads
+use Rattle.line.proofs.requests.reply_at.Reads as reply-at-reads
+
+-- src/lines.rt:39:9
+reply-at-requires : tie.Need-reply-at-requires
+reply-at-requires c κs = search needs
+
+-- src/lines.rt:41:9
+returns : tie.Need-returns
+returns c =
+    let a = c .before .before .before .before .args in
+    let r = c .before .before .reply-at in
+    (line-whole (a .line .now) (r .result) (r .ensures) (c .if1 .taken), reply-keyed (a .line .now) 0 (r .result) (r .ensures))
+
+-- src/lines.rt:43:5
+no-reply-requires : tie.Need-no-reply-requires
+no-reply-requires c κs = search needs
+
+-- src/lines.rt:35:1
+returns-2 : tie.Need-returns-2
+returns-2 c =
+    let a = c .before .before .before .before .before .args in
+    let r = c .before .before .before .reply-at in
+    let e = c .no-reply .ensures in
+    (ap (replyText (a .line .now)) e ∙ line-other (a .line .now) (r .result) (r .ensures) (c .before .if1 .left), subst (Keyed (a .line .now)) (sym e) (none-keyed (a .line .now)))
+
+pub line-reply-spec : {M : Type 1} → statement M
+line-reply-spec = tie.close (tie.spec reply-at-requires returns no-reply-requires returns-2)

@@ -1,0 +1,149 @@
+// The block call: all whole lines of a part of the input, in order.
+use crate::lines::Wrote;
+use crate::lines::answer_at;
+use crate::requests::Reply;
+use crate::requests::no_reply;
+use crate::requests::reply_at;
+ghost use mathlib.Core.Path.{_≡_};
+ghost use Prim.Native.Nat.{_≤_, _-_};
+ghost use lib.ListN.{length};
+ghost use Rattle.line.specs.Answers.{noReply};
+ghost use Rattle.line.specs.Blocks.{feedAfter, pieceAt, stepAt, Turned, blockOf, Answered};
+
+// The next piece of a part: the position after it (its own where there is none), whether a long line goes on past the part,
+// and its answer.
+pub struct Piece {
+    pub next: usize,
+    pub skipping: bool,
+    pub reply: Reply,
+}
+
+// After one turn: how far the input and the output have come, and whether a long line is being skipped.
+pub struct Turn {
+    pub next: usize,
+    pub wrote: usize,
+    pub skipping: bool,
+}
+
+// How much of the part was used, how many bytes were written, and whether a long line that was answered goes on.
+pub struct Progress {
+    pub used: usize,
+    pub wrote: usize,
+    pub skipping: bool,
+}
+
+// The position after the first line feed from a position on; 0 where there is none.
+fn feed_after(s: &[u8], at: usize) -> usize
+    ensures { λ r. ⌜ r ≡ feedAfter (now (s .entry)) at ⌝ }
+{
+    let mut i = at;
+    while i < s.len() {
+        if s[i] == 10 {
+            return i + 1;
+        }
+        i += 1;
+    }
+    0
+}
+
+fn unasked(next: usize, skipping: bool) -> Piece
+    ensures { λ r. ⌜ r ≡ record { next = next; skipping = skipping; reply = noReply } ⌝ }
+{
+    let reply = no_reply();
+    Piece {
+        next,
+        skipping,
+        reply,
+    }
+}
+
+// The next piece that asks for an answer.
+fn piece_at(s: &[u8], at: usize, last: bool) -> Piece
+    requires { ⌜ at ≤ length (now s) ⌝ }
+    ensures { λ r. ⌜ r ≡ pieceAt (now (s .entry)) at last ⌝ }
+{
+    let reply = reply_at(s, at);
+    let next = reply.next;
+    if next != 0 {
+        return Piece {
+            next,
+            skipping: false,
+            reply,
+        };
+    }
+    let end = feed_after(s, at);
+    if end != 0 {
+        return unasked(end, false);
+    }
+    if 512 <= s.len() - at {
+        return unasked(s.len(), true);
+    }
+    if last {
+        return unasked(s.len(), false);
+    }
+    unasked(at, false)
+}
+
+// One turn: skip to the line feed, or answer the next piece if there is room.
+fn turn_at(s: &[u8], at: usize, out: &mut [u8], wrote: usize, skipping: bool, last: bool) -> Turn
+    requires { ⌜ at ≤ length (now s) ⌝ }
+    requires { ⌜ wrote ≤ length (now out) ⌝ }
+    ensures { λ r. ⌜ Turned (stepAt (now (s .entry)) at (length (now (out .entry)) - wrote) skipping last) (now (out .entry)) wrote r (now (out .exit)) ⌝ }
+{
+    if skipping {
+        let end = feed_after(s, at);
+        if end == 0 {
+            return Turn {
+                next: s.len(),
+                wrote,
+                skipping: true,
+            };
+        }
+        return Turn {
+            next: end,
+            wrote,
+            skipping: false,
+        };
+    }
+    let piece = piece_at(s, at, last);
+    let next = piece.next;
+    let reply = piece.reply;
+    if next != at {
+        if let Wrote::Bytes(n) = answer_at(s, reply, out, wrote) {
+            return Turn {
+                next,
+                wrote: wrote + n,
+                skipping: piece.skipping,
+            };
+        }
+    }
+    Turn {
+        next: at,
+        wrote,
+        skipping: false,
+    }
+}
+
+// Answers the whole lines of a part of the input for which the output has room, in order. `skipping` is what the call before
+// carried on; with `last` the input ends here, so that what is left is a line too.
+pub fn answer_block(input: &[u8], out: &mut [u8], skipping: bool, last: bool) -> Progress
+    ensures { λ r. ⌜ Answered (blockOf (now (input .entry)) (length (now (out .entry))) skipping last) (now (input .entry)) (now (out .entry)) r (now (out .exit)) ⌝ }
+{
+    let mut used = 0usize;
+    let mut wrote = 0usize;
+    let mut skip = skipping;
+    while used < input.len() {
+        let t = turn_at(input, used, out, wrote, skip, last);
+        if t.next == used {
+            break;
+        }
+        used = t.next;
+        wrote = t.wrote;
+        skip = t.skipping;
+    }
+    Progress {
+        used,
+        wrote,
+        skipping: skip,
+    }
+}

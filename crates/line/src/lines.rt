@@ -1,0 +1,54 @@
+// The line call: one line, answered into a lent output from an offset.
+use crate::requests::Reply;
+use crate::requests::no_reply;
+use crate::requests::reply_at;
+use crate::texts::put_reply;
+use crate::texts::reply_len;
+use quantity::Refusal;
+ghost use mathlib.Core.Path.{_≡_};
+ghost use Rattle.line.specs.Answers.{Keyed, answerOf, replyText, placed, wroteOf};
+
+// How many bytes the answer took, or the one refusal of the call.
+pub enum Wrote {
+    Bytes(usize),
+    Refused(Refusal),
+}
+
+// Writes an answer at an offset of the output, if there is room.
+pub fn answer_at(s: &[u8], reply: Reply, out: &mut [u8], at: usize) -> Wrote
+    requires { ⌜ Keyed (now s) reply ⌝ }
+    ensures { λ r. ⌜ r ≡ wroteOf (now (out .entry)) at (replyText (now (s .entry)) reply) ⌝ }
+    ensures { λ r. ⌜ now (out .exit) ≡ placed (now (out .entry)) at (replyText (now (s .entry)) reply) ⌝ }
+{
+    let n = reply_len(s, reply);
+    if out.len() < at {
+        return Wrote::Refused(Refusal::NoRoom);
+    }
+    if out.len() - at < n {
+        return Wrote::Refused(Refusal::NoRoom);
+    }
+    put_reply(s, reply, &mut out[at..]);
+    Wrote::Bytes(n)
+}
+
+// The request that a whole line is.
+fn line_reply(line: &[u8]) -> Reply
+    ensures { λ r. ⌜ replyText (now (line .entry)) r ≡ answerOf (now (line .entry)) ⌝ }
+    ensures { λ r. ⌜ Keyed (now (line .entry)) r ⌝ }
+{
+    let reply = reply_at(line, 0);
+    if reply.next == line.len() {
+        return reply;
+    }
+    no_reply()
+}
+
+// Answers one line, with its line feed, from an offset of the output: the answer, or 11 for what is no request. Bytes before
+// the offset and after the answer keep their contents. Refused only with 10, the output then untouched.
+pub fn answer_line(line: &[u8], out: &mut [u8], at: usize) -> Wrote
+    ensures { λ r. ⌜ r ≡ wroteOf (now (out .entry)) at (answerOf (now (line .entry))) ⌝ }
+    ensures { λ r. ⌜ now (out .exit) ≡ placed (now (out .entry)) at (answerOf (now (line .entry))) ⌝ }
+{
+    let reply = line_reply(line);
+    answer_at(line, reply, out, at)
+}

@@ -1,0 +1,169 @@
+// Requests: kind, key and bands, and what they are answered.
+use crate::bands::Gathered;
+use crate::bands::bands_at;
+use crate::bytes::byte;
+use crate::bytes::is_key;
+use quantity::BandSet;
+use quantity::Refusal;
+use rating::Kind;
+use rating::Rated;
+use rating::rate;
+ghost use mathlib.Core.Path.{_≡_};
+ghost use Prim.Native.Nat.{_+_, _≤_, _<_};
+ghost use lib.ListN.{length, drop};
+ghost use Rattle.rating.specs.Kinds.{bandsOf};
+ghost use Rattle.line.specs.Reading.{kindAt, keySpan, withKey};
+ghost use Rattle.line.specs.Answers.{noReply, replyAt, replyTo, judgedIn};
+
+pub enum Named {
+    Is(Kind),
+    Nothing,
+}
+
+// A request: the position after it (0 for none), its kind, where its key stands and how long it is, and what it is answered.
+pub struct Reply {
+    pub next: usize,
+    pub kind: Kind,
+    pub key: usize,
+    pub len: usize,
+    pub rated: Rated,
+}
+
+// The kind at a position.
+fn kind_at(s: &[u8], at: usize) -> Named
+    ensures { λ r. ⌜ r ≡ kindAt (now (s .entry)) at ⌝ }
+{
+    let b = byte(s, at);
+    if b == 65 {
+        let d = byte(s, at + 1);
+        if d == 51 {
+            return Named::Is(Kind::A3);
+        }
+        if d == 49 {
+            return Named::Is(Kind::A1);
+        }
+        return Named::Nothing;
+    }
+    if b == 73 {
+        let d = byte(s, at + 1);
+        if d == 51 {
+            return Named::Is(Kind::I3);
+        }
+        if d == 49 {
+            return Named::Is(Kind::I1);
+        }
+    }
+    Named::Nothing
+}
+
+// How many bytes of a key stand from a position on.
+fn key_span(s: &[u8], at: usize) -> usize
+    requires { ⌜ at ≤ length (now s) ⌝ }
+    ensures { λ r. ⌜ r ≡ keySpan (drop at (now (s .entry))) ⌝ }
+{
+    let mut n = 0;
+    while is_key(byte(s, at + n)) {
+        n += 1;
+    }
+    n
+}
+
+// The number of bands of a kind.
+fn bands_of(kind: Kind) -> usize
+    ensures { λ r. ⌜ r ≡ bandsOf kind ⌝ }
+{
+    match kind {
+        Kind::A3 => 16,
+        Kind::A1 => 5,
+        Kind::I3 => 16,
+        Kind::I1 => 5,
+    }
+}
+
+// What a request is answered: 1 where the number of bands is not the kind's, then the first refusal of a band, then its sheet.
+fn judge(kind: Kind, bands: Gathered) -> Rated
+    ensures { λ r. ⌜ r ≡ judgedIn kind bands ⌝ }
+{
+    let count = bands.count;
+    if count != bands_of(kind) {
+        return Rated::Refused(Refusal::BandCount);
+    }
+    let fault = bands.fault;
+    if fault == 3 {
+        return Rated::Refused(Refusal::NoReading);
+    }
+    if fault != 0 {
+        return Rated::Refused(Refusal::BandRange);
+    }
+    let values = bands.values;
+    rate(
+        kind,
+        BandSet {
+            values,
+            marks: bands.marks,
+            len: count,
+        },
+    )
+}
+
+pub fn no_reply() -> Reply
+    ensures { λ r. ⌜ r ≡ noReply ⌝ }
+{
+    Reply {
+        next: 0,
+        kind: Kind::A3,
+        key: 0,
+        len: 0,
+        rated: Rated::Refused(Refusal::NotRequest),
+    }
+}
+
+// The key and the bands of a request that starts `at`.
+fn keyed(s: &[u8], at: usize, kind: Kind) -> Reply
+    requires { ⌜ at + 2 < length (now s) ⌝ }
+    ensures { λ r. ⌜ r ≡ replyTo at (withKey kind (now (s .entry)) (at + 3) (keySpan (drop (at + 3) (now (s .entry))))) ⌝ }
+{
+    let key = at + 3;
+    let len = key_span(s, key);
+    if len == 0 {
+        return no_reply();
+    }
+    if 32 < len {
+        return no_reply();
+    }
+    let bands = bands_at(s, key + len);
+    let next = bands.next;
+    if next == 0 {
+        return no_reply();
+    }
+    if bands.count == 0 {
+        return no_reply();
+    }
+    if at + 512 < next {
+        return no_reply();
+    }
+    let rated = judge(kind, bands);
+    Reply {
+        next,
+        kind,
+        key,
+        len,
+        rated,
+    }
+}
+
+// The request at a position, with its answer.
+pub fn reply_at(s: &[u8], at: usize) -> Reply
+    ensures { λ r. ⌜ r ≡ replyAt (now (s .entry)) at ⌝ }
+{
+    let named = kind_at(s, at);
+    match named {
+        Named::Nothing => no_reply(),
+        Named::Is(kind) => {
+            if byte(s, at + 2) != 9 {
+                return no_reply();
+            }
+            keyed(s, at, kind)
+        }
+    }
+}
