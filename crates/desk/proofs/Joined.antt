@@ -1,11 +1,9 @@
 -- A rating from readings is the rating of what their intake gives. Assumes nothing.
-use mathlib.Core.Path.{_≡_, refl, sym, _∙_, ap, ap₂}
+use mathlib.Core.Path.{_≡_, sym, _∙_, ap}
 use mathlib.Core.List.{List}
 use Prim.Native.Nat.{ℕ}
-use Rattle.quantity.specs.declared.quantities.BandSet.{BandSet}
 use Rattle.quantity.specs.declared.quantities.Reading.{Reading}
 use Rattle.quantity.specs.declared.refusals.Refusal.{Refusal}
-use Rattle.intake.specs.declared.lists.Outcome.{Outcome}
 use Rattle.intake.specs.declared.lists.Outcome.the-variants as outcome
 use Rattle.intake.specs.declared.lists.Intake.{Intake}
 use Rattle.intake.specs.Lists.{listOf}

@@ -8,5 +8,6 @@ pub mod Terms
 pub mod Background
 pub mod Covers
 pub mod Lift
+pub mod Lines
 pub mod Refusals
 pub mod Calls

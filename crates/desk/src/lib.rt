@@ -3,11 +3,14 @@
 // No call has a `requires`: each answers every input, or refuses it with the one number that document 01 gives. Its promise
 // is an equation with a definition of `specs/`, where the definitions stand gathered in the document's order.
 mod lifts;
+mod lines;
 mod measured;
 mod products;
 mod ratings;
 
 pub use lifts::lift;
+pub use lines::answer_block;
+pub use lines::answer_line;
 pub use measured::correct_field;
 pub use measured::correct_laboratory;
 pub use measured::octaves;

@@ -1,6 +1,5 @@
 -- The count of shifts of every rating is at most 500, by the bound in its definition, and every grade at most 6, so that they
 -- fit an answer. Assumes nothing.
-use mathlib.Core.Path.{_≡_, refl, sym, _∙_, ap, subst}
 use mathlib.Core.Bool.{Bool, true, false, cond}
 use mathlib.Core.List.{List}
 use Prim.Native.Nat.{ℕ, zero, suc, _+_, _≤_}

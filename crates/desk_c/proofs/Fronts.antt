@@ -2,14 +2,14 @@
 -- array keeps its length. Assumes nothing.
 use mathlib.Core.Path.{_≡_, refl, sym, _∙_, ap}
 use mathlib.Core.List.{List, [], _∷_, _++_, append-assoc}
-use Prim.Native.Nat.{ℕ, suc, _+_, _-_, _≤_, _<_}
+use Prim.Native.Nat.{ℕ, suc, _+_, _≤_, _<_}
 use native.Mathlib.Omega.{arith}
 use native.Mathlib.Numerals.{add-one}
 use borrow.Author.Tests.{le-leb, lt-leb}
 use lib.ListN.{length, getD, take, drop, set, length-append, length-drop}
 use lib.Seq.{drop-cons, set-at, take-suc, length-take-le}
-use Rattle.desk_c.specs.Answers.{Answer, front, returned, held}
-use Rattle.desk_c.specs.Answers.Answer.{refused, numbers}
+use Rattle.desk_c.specs.Answers.{front, returned, held}
+use Rattle.desk_c.specs.Answers.Answer.{numbers}
 
 module _ {A : Type 0} (d : A) where
   -- a store at the first place after a list

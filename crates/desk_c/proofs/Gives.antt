@@ -23,7 +23,7 @@ use Rattle.desk_c.specs.declared.kinds.Named.{Named}
 use Rattle.desk_c.specs.declared.kinds.Named.the-variants.{Is, Unknown}
 use Rattle.desk_c.specs.Answers.{Answer, returned, held, flag}
 use Rattle.desk_c.specs.Answers.Answer.{refused, numbers}
-use Rattle.desk_c.specs.Ratings.{takenAnswer, termValue, termFlag, sheetNumbers, ratedAnswer, byKind, Fitting}
+use Rattle.desk_c.specs.Ratings.{takenAnswer, termValue, termFlag, ratedAnswer, byKind, Fitting}
 use Rattle.desk_c.specs.Rooms.{levelAnswer, coverNumbers, gradedAnswer, GradeFits}
 
 -- what a call leaves: its result and its lent array, for an answer

@@ -1,7 +1,8 @@
 -- Laws of the C door.
-pub mod Fronts
 pub mod Doors
+pub mod Fronts
 pub mod Listing
 pub mod Fits
 pub mod Gives
 pub mod Lifting
+pub mod Lining

@@ -1,7 +1,7 @@
 -- The lift call behind two lent arrays. Where there is no room for the count, the number is the same with any list, so the
 -- caller's list is not needed; where there is, the list is the lift call's own. Assumes nothing.
-use mathlib.Core.Path.{_≡_, refl, sym, _∙_, ap, ap₂, subst}
-use mathlib.Core.Bool.{Bool, true, false, cond}
+use mathlib.Core.Path.{_≡_, refl, sym, _∙_, ap, subst}
+use mathlib.Core.Bool.{Bool, true, false}
 use mathlib.Core.List.{List, [], _∷_}
 use Prim.Native.Nat.{ℕ, _≤_, _<_}
 use native.Mathlib.Omega.{arith}
@@ -28,7 +28,7 @@ use Rattle.lift.proofs.Listing.{list-room}
 use Rattle.desk_c.specs.declared.kinds.Named.{Named}
 use Rattle.desk_c.specs.declared.kinds.Named.the-variants.{Is, Unknown}
 use Rattle.desk_c.specs.Answers.{Answer, returned, held}
-use Rattle.desk_c.specs.Answers.Answer.{refused, numbers}
+use Rattle.desk_c.specs.Answers.Answer.{numbers}
 use Rattle.desk_c.specs.Lists.{setFrom}
 use Rattle.desk_c.specs.Ratings.{kindOf, byKind}
 use Rattle.desk_c.proofs.Fronts.{stored}

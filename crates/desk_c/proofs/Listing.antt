@@ -1,7 +1,6 @@
 -- A list by index: its length, its entries, and a list that agrees with it at each index so far. The two loops that fill an
 -- array of a fixed length from a function of the index are one law. Assumes nothing.
 use mathlib.Core.Path.{_≡_, refl, sym, _∙_, ap}
-use mathlib.Core.Bool.{Bool, cond}
 use mathlib.Core.List.{List, [], _∷_, _++_}
 use Prim.Native.Nat.{ℕ, zero, suc, _+_, _≤_, _<_}
 use native.Mathlib.Nat.{add-zero, zero-add}
@@ -10,10 +9,8 @@ use native.Mathlib.Decide.{ℕ-discrete}
 use native.Mathlib.Omega.{arith}
 use borrow.Author.Tests.{lt-ltb, le-ltb}
 use lib.Ieee.{Float, nan}
-use lib.IntN.{ℤ, pos}
 use lib.ListN.{length, getD, take, set, length-set}
 use lib.Seq.{getD-set-same, getD-set-other, getD-take, take-suc-set, length-take-le, ext-getD}
-use Rattle.quantity.specs.declared.quantities.Reading.{Reading}
 use Rattle.quantity.specs.declared.quantities.Reading.the-variants.{Missing}
 use Rattle.desk_c.specs.Lists.{listed, readingFrom, readingAt}
 

@@ -4,3 +4,4 @@ pub mod Lists
 pub mod Ratings
 pub mod Rooms
 pub mod Lifts
+pub mod Lines

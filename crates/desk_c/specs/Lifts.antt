@@ -1,5 +1,5 @@
 -- The answer of the lift call: a count for one lent array, the listed sets for another.
-use mathlib.Core.Bool.{Bool, cond}
+use mathlib.Core.Bool.{cond}
 use mathlib.Core.List.{List, [], _∷_}
 use Prim.Native.Nat.{ℕ}
 use lib.Dec.{leb}

@@ -1,5 +1,4 @@
 -- The answers of the calls on rooms, specimens, covers, doors and windows.
-use mathlib.Core.Bool.{Bool}
 use mathlib.Core.List.{List, [], _∷_, _++_}
 use Prim.Native.Nat.{ℕ, zero, suc, _≤_}
 use lib.IntN.{ℤ, pos}

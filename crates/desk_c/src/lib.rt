@@ -6,11 +6,14 @@
 mod given;
 mod kinds;
 mod lifts;
+mod lines;
 mod lists;
 mod measured;
 mod ratings;
 
 pub use lifts::imbrolt_lift;
+pub use lines::imbrolt_block;
+pub use lines::imbrolt_line;
 pub use measured::imbrolt_cover;
 pub use measured::imbrolt_field;
 pub use measured::imbrolt_grade;

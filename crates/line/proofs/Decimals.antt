@@ -46,6 +46,7 @@ decimal-step a b h k =
   where
     tenth : (a b : ℕ) → b < 10 → (10 * a + b) / 10 ≡ a
     tenth a b k = omega arith
+
     unit : (a b : ℕ) → b < 10 → (10 * a + b) % 10 ≡ b
     unit a b k = omega arith
 
@@ -58,6 +59,7 @@ figure-step a b k =
   where
     tenth : (a b : ℕ) → b < 10 → (10 * a + b) / 10 ≡ a
     tenth a b k = omega arith
+
     unit : (a b : ℕ) → b < 10 → (10 * a + b) % 10 ≡ b
     unit a b k = omega arith
 

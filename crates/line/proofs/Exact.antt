@@ -57,7 +57,7 @@ module _ (s : List ℕ) (start : ℕ) where
           let st : Stood s at (48 + digitAt s at) = digit-stands s at d in
           record {
             stands = subst (λ (l : List ℕ). Stands s start l) (sym text)
-              (one-more s (decimal whole ++ (46 ∷ [])) start at (48 + digitAt s at) k e (st .within) (st .is));
+                (one-more s (decimal whole ++ (46 ∷ [])) start at (48 + digitAt s at) k e (st .within) (st .is));
             ends = omega (arith, ap length text, snoc-length (decimal whole ++ (46 ∷ [])) (48 + digitAt s at));
             small = omega arith;
           }
@@ -78,9 +78,10 @@ module _ (s : List ℕ) (start : ℕ) where
       → Stands s start (decimal (10 * whole + digitAt s at)) × (at + 1 ≡ start + length (decimal (10 * whole + digitAt s at)))
   wider at whole z k e d =
       let text : decimal (10 * whole + digitAt s at) ≡ decimal whole ++ ((48 + digitAt s at) ∷ []) = decimal-step whole (digitAt s at) z d in
-      let st : Stood s at (48 + digitAt s at) = digit-stands s at d in
-      ( subst (λ (l : List ℕ). Stands s start l) (sym text) (one-more s (decimal whole) start at (48 + digitAt s at) k e (st .within) (st .is))
-      , omega (arith, ap length text, snoc-length (decimal whole) (48 + digitAt s at)) )
+      let st : Stood s at (48 + digitAt s at) = digit-stands s at d in (
+        subst (λ (l : List ℕ). Stands s start l) (sym text) (one-more s (decimal whole) start at (48 + digitAt s at) k e (st .within) (st .is)),
+        omega (arith, ap length text, snoc-length (decimal whole) (48 + digitAt s at)),
+      )
 
   second-ok : (at whole : ℕ) → 0 < whole → whole < 100 → Stands s start (decimal whole) → at ≡ start + length (decimal whole) → FigureOk s start (secondAt s at whole)
   unfolding secondAt
@@ -99,8 +100,8 @@ module _ (s : List ℕ) (start : ℕ) where
       if-ok s start (eqb (byteAt s at) 46) (tenthAt s (at + 1) whole) (cond (eqb whole 0) Nothing rest)
       (λ t. point-ok at whole (omega arith) k e (eqb-true (byteAt s at) 46 t))
       (λ t. if-ok s start (eqb whole 0) Nothing rest (λ z. tt)
-        (λ z. if-ok s start (ltb (digitAt s at) 10) (secondAt s (at + 1) (10 * whole + digitAt s at)) Nothing
-          (λ u. more (omega (arith, eqb-false whole 0 z)) (ltb-true (digitAt s at) 10 u)) (λ u. tt)))
+      (λ z. if-ok s start (ltb (digitAt s at) 10) (secondAt s (at + 1) (10 * whole + digitAt s at)) Nothing
+      (λ u. more (omega (arith, eqb-false whole 0 z)) (ltb-true (digitAt s at) 10 u)) (λ u. tt)))
     where
       more : 0 < whole → digitAt s at < 10 → FigureOk s start (secondAt s (at + 1) (10 * whole + digitAt s at))
       more z d = let w = wider at whole z k e d in second-ok (at + 1) (10 * whole + digitAt s at) (omega arith) (omega arith) (w .0) (w .1)
@@ -252,7 +253,8 @@ module _ (s : List ℕ) (start at : ℕ) (limit : Bool) (mark : Stands s start (
   level-made z next ok h l = record {
     stands = joined s (markText limit) (levelText z) start mark (move s (levelText z) at (start + length (markText limit)) e h);
     ends = omega (arith, length-append (markText limit) (levelText z));
-    small = ok }
+    small = ok;
+  }
 
   plus-ok : (f : Figure) → FigureOk s at f → FoundOk s start (signedBy limit false f)
   unfolding levelText
@@ -264,9 +266,10 @@ module _ (s : List ℕ) (start at : ℕ) (limit : Bool) (mark : Stands s start (
   minus-ok p (Read zero next) h = tt
   minus-ok p (Read (suc m) next) h =
       rw (eqb·suc-zero m)
-      (level-made (negsuc m) next (given (omega arith) (h .small))
-      ( record { within = inside s at (omega arith); is = p }
-      , move s (figureText (suc m)) (at + 1) (suc at) (omega arith) (h .stands) )
+      (level-made (negsuc m) next (given (omega arith) (h .small)) (
+        record { within = inside s at (omega arith); is = p },
+        move s (figureText (suc m)) (at + 1) (suc at) (omega arith) (h .stands),
+      )
       (omega (arith, h .ends)))
   minus-ok p Nothing h = tt
 
@@ -285,12 +288,13 @@ band-ok s at =
     (cond (eqb (byteAt s at) 45) (cond (ltb (digitAt s (at + 1)) 10) (levelAt s at false) (found missing (at + 1))) (levelAt s at false))
     (λ t. level-ok s at (at + 1) true (record { within = inside s at (omega (arith, eqb-true (byteAt s at) 76 t)); is = eqb-true (byteAt s at) 76 t }, tt) (omega arith))
     (λ t. if-found s at (eqb (byteAt s at) 45) (cond (ltb (digitAt s (at + 1)) 10) (levelAt s at false) (found missing (at + 1))) (levelAt s at false)
-      (λ u. if-found s at (ltb (digitAt s (at + 1)) 10) (levelAt s at false) (found missing (at + 1)) (λ v. plain)
-        (λ v. record {
-          stands = (record { within = inside s at (omega (arith, eqb-true (byteAt s at) 45 u)); is = eqb-true (byteAt s at) 45 u }, tt);
-          ends = refl;
-          small = gone }))
-      (λ u. plain))
+    (λ u. if-found s at (ltb (digitAt s (at + 1)) 10) (levelAt s at false) (found missing (at + 1)) (λ v. plain)
+    (λ v. record {
+      stands = (record { within = inside s at (omega (arith, eqb-true (byteAt s at) 45 u)); is = eqb-true (byteAt s at) 45 u }, tt);
+      ends = refl;
+      small = gone;
+    }))
+    (λ u. plain))
 
 -- and where the text of one stands, and no digit follows, it is read
 level-here : (s : List ℕ) (at : ℕ) (limit : Bool) (z : ℤ) → BandOk (level limit z) → Stands s at (levelText z)
@@ -302,21 +306,22 @@ level-here s at limit (pos m) (given p q) h =
     rw (ne-eqb (byteAt s at) 45 (omega (arith, digit-read (byteAt s at) d))) (ap (signedBy limit false) f)
 level-here s at limit (negsuc m) (given p q) h =
     let f : figureAt s (at + 1) ≡ Read (suc m) (at + 1 + length (figureText (suc m))) =
-      figure-here s (at + 1) (suc m) q (move s (figureText (suc m)) (suc at) (at + 1) (next-one at) (h .1)) in
-    rw (eq-eqb (byteAt s at) 45 (h .0 .is)) 
-    ( ap (signedBy limit true) f
+    figure-here s (at + 1) (suc m) q (move s (figureText (suc m)) (suc at) (at + 1) (next-one at) (h .1)) in
+    rw (eq-eqb (byteAt s at) 45 (h .0 .is))
+    (ap (signedBy limit true) f
     ∙ ap (λ (t : Bool). cond t Found.nothing (found (level limit (negsuc m)) (at + 1 + length (figureText (suc m))))) (eqb·suc-zero m)
-    ∙ ap (found (level limit (negsuc m))) (omega arith) )
+    ∙ ap (found (level limit (negsuc m))) (omega arith))
 
 level-starts : (s : List ℕ) (at : ℕ) (z : ℤ) → P z ≤ 9999 → N z ≤ 9999 → Stands s at (levelText z) → (byteAt s at ≡ 45 → digitAt s (at + 1) < 10) × (byteAt s at ≡ 76 → ⊥)
 unfolding levelText
 level-starts s at (pos m) p q h =
     let d : digitAt s at < 10 = figure-digit s at m (at + length (figureText m)) (figure-here s at m p h) in
-    ( (λ e. absurd (omega (arith, digit-read (byteAt s at) d))), (λ e. omega (arith, digit-read (byteAt s at) d)) )
-level-starts s at (negsuc m) p q h =
-    ( (λ e. figure-digit s (at + 1) (suc m) (at + 1 + length (figureText (suc m)))
-        (figure-here s (at + 1) (suc m) q (move s (figureText (suc m)) (suc at) (at + 1) (next-one at) (h .1))))
-    , (λ e. omega (arith, h .0 .is)) )
+    ((λ e. absurd (omega (arith, digit-read (byteAt s at) d))), (λ e. omega (arith, digit-read (byteAt s at) d)))
+level-starts s at (negsuc m) p q h = (
+  (λ e. figure-digit s (at + 1) (suc m) (at + 1 + length (figureText (suc m)))
+      (figure-here s (at + 1) (suc m) q (move s (figureText (suc m)) (suc at) (at + 1) (next-one at) (h .1)))),
+  (λ e. omega (arith, h .0 .is)),
+)
 
 pub band-here : (s : List ℕ) (at : ℕ) (b : Band) → BandOk b → Stands s at (bandText b) → 10 ≤ digitAt s (at + length (bandText b))
     → bandAt s at ≡ found b (at + length (bandText b))

@@ -127,6 +127,7 @@ feed-behind (b ∷ s) t h = go (eqb b 10) refl (feed-behind s t)
     was-none : (n : ℕ) → oneMore n ≡ 0 → n ≡ 0
     was-none zero e = refl
     was-none (suc n) e = absurd (omega arith)
+
     shift : (n : ℕ) → oneMore (movedBy (length s) n) ≡ movedBy (suc (length s)) n
     shift zero = refl
     shift (suc n) = one (length s) n
@@ -136,6 +137,7 @@ feed-behind (b ∷ s) t h = go (eqb b 10) refl (feed-behind s t)
           where
             regroup : (k n : ℕ) → k + suc n ≡ suc (k + n)
             regroup k n = omega arith
+
     go : (t' : Bool) → eqb b 10 ≡ t' → (feedIn s ≡ 0 → feedIn (s ++ t) ≡ movedBy (length s) (feedIn t)) → feedIn (b ∷ (s ++ t)) ≡ movedBy (suc (length s)) (feedIn t)
     go true e r = absurd (omega (arith, sym (feed-cons b s true e) ∙ h))
     go false e r = feed-cons b (s ++ t) false e ∙ ap oneMore (r (was-none (feedIn s) (sym (feed-cons b s false e) ∙ h))) ∙ shift (feedIn t)
@@ -166,6 +168,7 @@ others-end (f ∷ fs) (Plain.more h p) =
     some : (fs : List (List ℕ)) → 0 < length (others fs)
     some [] = omega arith
     some (g ∷ gs) = omega arith
+
     go : (n : ℕ) → 0 < n → oneMore (movedBy (length f) n) ≡ suc (length f + n)
     go zero z = absurd (omega arith)
     go (suc n) z = ap oneMore (regroup (length f) n) ∙ ap suc (sym (regroup (length f) n))
@@ -183,6 +186,7 @@ request-end kind key bands k =
   where
     some : (f : List ℕ) (fs : List (List ℕ)) → 0 < length (others (f ∷ fs))
     some f fs = omega arith
+
     go : (n : ℕ) → 0 < n → movedBy (length (kindText kind)) n ≡ length (kindText kind) + n
     go zero z = absurd (omega arith)
     go (suc n) z = refl
@@ -211,6 +215,7 @@ feed-none-tail b s h = go (eqb b 10) refl
     none : (n : ℕ) → oneMore n ≡ 0 → n ≡ 0
     none zero e = refl
     none (suc n) e = absurd (omega arith)
+
     go : (t : Bool) → eqb b 10 ≡ t → (eqb b 10 ≡ false) × (feedIn s ≡ 0)
     go true e = absurd (omega (arith, sym (feed-cons b s true e) ∙ h))
     go false e = (e, none (feedIn s) (sym (feed-cons b s false e) ∙ h))
@@ -224,8 +229,10 @@ lines-first (b ∷ s) t w h = go (eqb b 10) refl (lines-first s t)
     one : (w : ℕ) → w ≡ 0 → eqb b 10 ≡ true → (10 ∷ []) ∷ linesOf (s ++ t) ≡ take (suc w) (b ∷ s) ∷ linesOf (drop (suc w) (b ∷ s) ++ t)
     one zero z e = ap (λ (x : ℕ). (x ∷ []) ∷ linesOf (s ++ t)) (sym (eqb-true b 10 e))
     one (suc w) z e = absurd (omega arith)
+
     later : (w v : ℕ) → w ≡ suc v → joined b (take (suc v) s ∷ linesOf (drop (suc v) s ++ t)) ≡ take (suc w) (b ∷ s) ∷ linesOf (drop (suc w) (b ∷ s) ++ t)
     later w v e = ap (λ (k : ℕ). take (suc k) (b ∷ s) ∷ linesOf (drop (suc k) (b ∷ s) ++ t)) (sym e)
+
     go : (t' : Bool) → eqb b 10 ≡ t' → ((v : ℕ) → feedIn s ≡ suc v → linesOf (s ++ t) ≡ take (suc v) s ∷ linesOf (drop (suc v) s ++ t))
         → linesOf (b ∷ (s ++ t)) ≡ take (suc w) (b ∷ s) ∷ linesOf (drop (suc w) (b ∷ s) ++ t)
     go true e r = lines-cons b (s ++ t) true e ∙ one w (omega (arith, sym (feed-cons b s true e) ∙ h)) e
@@ -252,8 +259,10 @@ after-first (b ∷ s) t w h = go (eqb b 10) refl (after-first s t)
     one : (w : ℕ) → w ≡ 0 → s ++ t ≡ drop (suc w) (b ∷ s) ++ t
     one zero z = refl
     one (suc w) z = absurd (omega arith)
+
     later : (w v : ℕ) → w ≡ suc v → drop (suc v) s ++ t ≡ drop (suc w) (b ∷ s) ++ t
     later w v e = ap (λ (k : ℕ). drop (suc k) (b ∷ s) ++ t) (sym e)
+
     go : (t' : Bool) → eqb b 10 ≡ t' → ((v : ℕ) → feedIn s ≡ suc v → afterFeed (s ++ t) ≡ drop (suc v) s ++ t) → afterFeed (b ∷ (s ++ t)) ≡ drop (suc w) (b ∷ s) ++ t
     go true e r = after-cons b (s ++ t) true e ∙ one w (omega (arith, sym (feed-cons b s true e) ∙ h))
     go false e r = let f = feed-tail b s w e h in after-cons b (s ++ t) false e ∙ r (f .0) (f .1) ∙ later w (f .0) (f .2)

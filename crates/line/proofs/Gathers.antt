@@ -68,6 +68,7 @@ values-more bs b h =
   where
     one-less : (n : ℕ) → n < 16 → 16 - n ≡ suc (15 - n)
     one-less n h = omega arith
+
     rest : (n : ℕ) → n < 16 → 15 - n ≡ 16 - suc n
     rest n h = omega arith
 
@@ -103,7 +104,8 @@ gather-start s start = record {
   whole = refl;
   low = omega arith;
   high = omega arith;
-  few = λ _. record { marks-are = refl; values-are = refl; weight-is = refl } }
+  few = λ _. record { marks-are = refl; values-are = refl; weight-is = refl };
+}
 
 -- the field that the code reads, by what stands there
 pub no-next : (s : List ℕ) (at : ℕ) (f : Found) → FoundOk s (at + 1) f → fieldOf f .next ≡ 0 → f ≡ Found.nothing
@@ -126,7 +128,8 @@ met (found b next) r e h = record {
   is = ap (found b) (sym (ap (λ (x : Field). x .next) e));
   value = ap (λ (x : Field). x .value) e;
   limit = ap (λ (x : Field). x .limit) e;
-  fault = ap (λ (x : Field). x .fault) e }
+  fault = ap (λ (x : Field). x .fault) e;
+}
 
 module _ (s : List ℕ) (start : ℕ) (values : List Tenths) (marks weight count fault at : ℕ) (g : Gathering s start values marks weight count fault at)
     (r : Field) (tab : byteAt s at ≡ 9) (read : r ≡ fieldOf (bandAt s (at + 1))) (some : r .next ≡ 0 → ⊥) where
@@ -170,12 +173,13 @@ module _ (s : List ℕ) (start : ℕ) (values : List Tenths) (marks weight count
         enough = omega (arith, n .1, g .enough, further);
         count-is = omega (arith, g .count-is, all-length);
         fault-is = ap (λ (k : ℕ). orElse k (r .fault)) (g .fault-is) ∙ ap (orElse (firstFault (g .bands))) (found-here .fault)
-          ∙ sym (fault-more (g .bands) (found-here .band));
+            ∙ sym (fault-more (g .bands) (found-here .band));
         short = omega (arith, g .short, further);
         whole = l;
         low = lo;
         high = hi;
-        few = f }
+        few = f;
+      }
 
   weight-small : (t : Bool) (w : ℕ) → weightBy t w ≤ w
   weight-small true w = omega arith
@@ -197,10 +201,11 @@ module _ (s : List ℕ) (start : ℕ) (values : List Tenths) (marks weight count
       (λ few. record {
         marks-are = regroup marks w weight (r .limit) (f .marks-are) e (found-here .limit) (f .weight-is) ∙ sym (marks-more (g .bands) (found-here .band));
         values-are = ap (λ (v : List Tenths). set v count (r .value)) (f .values-are)
-          ∙ ap (λ (k : ℕ). set (valuesOf (g .bands)) k (r .value)) (g .count-is)
-          ∙ ap (set (valuesOf (g .bands)) (length (g .bands))) (found-here .value)
-          ∙ values-more (g .bands) (found-here .band) (omega (arith, g .count-is));
-        weight-is = omega (arith, f .weight-is, pow-suc 2 (length (g .bands))) ∙ ap (λ (k : ℕ). 2 ^ k) (sym all-length) })
+            ∙ ap (λ (k : ℕ). set (valuesOf (g .bands)) k (r .value)) (g .count-is)
+            ∙ ap (set (valuesOf (g .bands)) (length (g .bands))) (found-here .value)
+            ∙ values-more (g .bands) (found-here .band) (omega (arith, g .count-is));
+        weight-is = omega (arith, f .weight-is, pow-suc 2 (length (g .bands))) ∙ ap (λ (k : ℕ). 2 ^ k) (sym all-length);
+      })
     where
       regroup : (marks w weight : ℕ) (t : Bool) → marks ≡ marksOf (g .bands) → w ≡ weightBy t weight → t ≡ markOf (found-here .band) → weight ≡ 2 ^ length (g .bands)
           → marks + w ≡ marksOf (g .bands) + weightBy (markOf (found-here .band)) (2 ^ length (g .bands))
@@ -229,7 +234,7 @@ module _ (s : List ℕ) (start : ℕ) (values : List Tenths) (marks weight count
   out-broken r k e f z n =
       subst (λ (b : Bands). GatheredAt b k)
       (sym (by-fuel broken (λ m. bands-broken m s at (g .bands) e
-        (no-next s at (bandAt s (at + 1)) (band-ok s (at + 1)) (sym (ap (λ (x : Field). x .next) f) ∙ z))) zero-broken)) n
+      (no-next s at (bandAt s (at + 1)) (band-ok s (at + 1)) (sym (ap (λ (x : Field). x .next) f) ∙ z))) zero-broken)) n
 
   pub out-none : (k : Gathered) → (byteAt s at ≡ 9 → ⊥) → (byteAt s at ≡ 10 → ⊥) → k .next ≡ 0 → GatheredAt (bandsAt s start) k
   out-none k e f n = subst (λ (b : Bands). GatheredAt b k) (sym (by-fuel broken (λ m. bands-none m s at (g .bands) e f) zero-broken)) n
@@ -238,12 +243,15 @@ module _ (s : List ℕ) (start : ℕ) (values : List Tenths) (marks weight count
       → GatheredAt (bandsAt s start) (record { next = at + 1; count = count; fault = fault; marks = marks; values = values })
   out-end e =
       subst (λ (b : Bands). GatheredAt b (record { next = at + 1; count = count; fault = fault; marks = marks; values = values }))
-      (sym (go (g .fuel) refl))
-      (refl, record {
-        count = g .count-is;
-        fault = g .fault-is;
-        marks = λ few. g .few few .marks-are;
-        values = λ few. g .few few .values-are })
+      (sym (go (g .fuel) refl)) (
+        refl,
+        record {
+          count = g .count-is;
+          fault = g .fault-is;
+          marks = λ few. g .few few .marks-are;
+          values = λ few. g .few few .values-are;
+        },
+      )
     where
       go : (n : ℕ) → g .fuel ≡ n → bandsAt s start ≡ ended (g .bands) (at + 1)
       go zero f = absurd (omega (arith, inside s at (omega arith), g .enough))

@@ -13,3 +13,4 @@ pub mod Placing
 pub mod Turns
 pub mod Runs
 pub mod Feeds
+pub mod Meaning

@@ -27,9 +27,10 @@ use Rattle.line.proofs.Writers.{reply-none, reply-some}
 module _ (out : List ℕ) (at : ℕ) (text : List ℕ) where
   pub no-room : length out < at + length text → (wrote.Refused NoRoom ≡ wroteOf out at text) × (out ≡ placed out at text)
   unfolding wroteOf placed fitsAt
-  no-room h =
-      ( sym (ap (λ (t : Bool). cond t (wrote.Bytes (length text)) (wrote.Refused NoRoom)) (lt-leb (at + length text) (length out) h))
-      , sym (ap (λ (t : Bool). cond t (take at out ++ (text ++ drop (at + length text) out)) out) (lt-leb (at + length text) (length out) h)) )
+  no-room h = (
+    sym (ap (λ (t : Bool). cond t (wrote.Bytes (length text)) (wrote.Refused NoRoom)) (lt-leb (at + length text) (length out) h)),
+    sym (ap (λ (t : Bool). cond t (take at out ++ (text ++ drop (at + length text) out)) out) (lt-leb (at + length text) (length out) h)),
+  )
 
   module _ (h : at + length text ≤ length out) where
     pub room-wrote : (n : ℕ) → n ≡ length text → wrote.Bytes n ≡ wroteOf out at text

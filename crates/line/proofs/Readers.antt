@@ -114,7 +114,7 @@ second-small s at whole h =
     small-if (eqb (byteAt s at) 46) (tenthAt s (at + 1) whole) (cond (ltb (digitAt s at) 10) (thirdAt s (at + 1) (10 * whole + digitAt s at)) Nothing)
     (λ e. tenth-small s (at + 1) whole (omega arith))
     (λ e. small-if (ltb (digitAt s at) 10) (thirdAt s (at + 1) (10 * whole + digitAt s at)) Nothing
-      (λ f. third-small s (at + 1) (10 * whole + digitAt s at) (omega (arith, ltb-true (digitAt s at) 10 f))) (λ f. tt))
+    (λ f. third-small s (at + 1) (10 * whole + digitAt s at) (omega (arith, ltb-true (digitAt s at) 10 f))) (λ f. tt))
 
 first-small : (s : List ℕ) (at whole : ℕ) → whole < 10 → Small (firstAt s at whole)
 unfolding firstAt
@@ -123,8 +123,8 @@ first-small s at whole h =
     small-if (eqb (byteAt s at) 46) (tenthAt s (at + 1) whole) (cond (eqb whole 0) Nothing more)
     (λ e. tenth-small s (at + 1) whole (omega arith))
     (λ e. small-if (eqb whole 0) Nothing more (λ f. tt)
-      (λ f. small-if (ltb (digitAt s at) 10) (secondAt s (at + 1) (10 * whole + digitAt s at)) Nothing
-        (λ g. second-small s (at + 1) (10 * whole + digitAt s at) (omega (arith, ltb-true (digitAt s at) 10 g))) (λ g. tt)))
+    (λ f. small-if (ltb (digitAt s at) 10) (secondAt s (at + 1) (10 * whole + digitAt s at)) Nothing
+    (λ g. second-small s (at + 1) (10 * whole + digitAt s at) (omega (arith, ltb-true (digitAt s at) 10 g))) (λ g. tt)))
 
 pub figure-at-small : (s : List ℕ) (at : ℕ) → Small (figureAt s at)
 unfolding figureAt
@@ -174,7 +174,7 @@ module _ (limit less : Bool) (figure : Figure) (m next : ℕ) where
   signed-minus z e f n g =
       ap (λ (x : ℤ). fieldOf (found (level limit x) next)) (g ∙ below-zero m)
       ∙ sym (ap (λ (x : Figure). fieldOf (signedBy limit less x)) e ∙ ap (λ (x : Bool). fieldOf (signedBy limit x (Read m next))) f
-        ∙ ap (λ (t : Bool). fieldOf (cond t Found.nothing (found (level limit (negℤ (pos m))) next))) (ne-eqb m 0 n))
+      ∙ ap (λ (t : Bool). fieldOf (cond t Found.nothing (found (level limit (negℤ (pos m))) next))) (ne-eqb m 0 n))
 
 module _ (s : List ℕ) (at : ℕ) where
   pub level-minus : (limit : Bool) (b : ℕ) (figure : Figure) (r : Field) → b ≡ byteAt s at → b ≡ 45 → figure ≡ figureAt s (at + 1)
@@ -272,13 +272,15 @@ span-end (b ∷ s) (suc i) e = span-end s i e
 pub span-turn : (s : List ℕ) (at n : ℕ) → keySpan (drop at s) ≡ n + keySpan (drop (at + n) s) → keyByte (byteAt s (at + n)) ≡ true
     → (at + (n + 1) ≤ length s) × (keySpan (drop at s) ≡ n + 1 + keySpan (drop (at + (n + 1)) s))
 span-turn s at n e f =
-    let i : at + n < length s = inside s (at + n) (omega (arith, key-range (byteAt s (at + n)) f)) in
-    ( omega arith
-    , e ∙ ap (λ (k : ℕ). n + k) (span-more s (at + n) f ∙ ap (λ (k : ℕ). suc (keySpan (drop k s))) (index at n))
-      ∙ regroup n (keySpan (drop (at + (n + 1)) s)) )
+    let i : at + n < length s = inside s (at + n) (omega (arith, key-range (byteAt s (at + n)) f)) in (
+      omega arith,
+      e ∙ ap (λ (k : ℕ). n + k) (span-more s (at + n) f ∙ ap (λ (k : ℕ). suc (keySpan (drop k s))) (index at n))
+          ∙ regroup n (keySpan (drop (at + (n + 1)) s)),
+    )
   where
     index : (at n : ℕ) → suc (at + n) ≡ at + (n + 1)
     index at n = omega arith
+
     regroup : (n k : ℕ) → n + suc k ≡ n + 1 + k
     regroup n k = omega arith
 
@@ -287,6 +289,7 @@ span-start s at = ap (λ (k : ℕ). keySpan (drop k s)) (index at) ∙ first (ke
   where
     index : (at : ℕ) → at ≡ at + 0
     index at = omega arith
+
     first : (k : ℕ) → k ≡ 0 + k
     first k = omega arith
 

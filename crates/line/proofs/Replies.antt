@@ -45,13 +45,16 @@ judged-same kind bands r h =
   where
     set : Rated
     set = ratedOf kind (record { values = r .values; marks = r .marks; len = r .count })
+
     pick : Bool → Rated
     pick t = elim t [ true ↦ judgedBy (firstFault bands) (ratedOf kind (record { values = valuesOf bands; marks = marksOf bands; len = length bands })) | false ↦ Refused BandCount ]
+
     sets : length bands ≤ 16 → set ≡ ratedOf kind (record { values = valuesOf bands; marks = marksOf bands; len = length bands })
     sets few =
         ap (λ (v : List Tenths). ratedOf kind (record { values = v; marks = r .marks; len = r .count })) (h .values few)
         ∙ ap (λ (m : ℕ). ratedOf kind (record { values = valuesOf bands; marks = m; len = r .count })) (h .marks few)
         ∙ ap (λ (n : ℕ). ratedOf kind (record { values = valuesOf bands; marks = marksOf bands; len = n })) (h .count)
+
     go : (t : Bool) → eqb (length bands) (bandsOf kind) ≡ t → cond (eqb (length bands) (bandsOf kind)) (judgedBy (r .fault) set) (Refused BandCount)
         ≡ pick (eqb (length bands) (bandsOf kind))
     go true e =
@@ -67,6 +70,7 @@ positive s at b bs next e g = go (subst (BandsGood s at []) e g)
     some : (fs : List (List ℕ)) → 0 < length (Rattle.line.specs.Texts.others fs)
     some [] = omega arith
     some (f ∷ fs) = omega arith
+
     go : BandsGood s at [] (ended bs next) → 0 < next
     go k = omega (arith, k .ends, some (mathlib.Core.List.map Rattle.line.specs.Texts.bandText (k .new)))
 
@@ -143,6 +147,7 @@ module _ (s : List ℕ) (at : ℕ) (kind : Kind) (n : ℕ) (span : n ≡ keySpan
       where
         size : n ≡ length (take n (drop (at + 3) s))
         size = sym (length-take-le n (drop (at + 3) s) (subst (λ (k : ℕ). k ≤ length (drop (at + 3) s)) (sym span) (span-most (drop (at + 3) s))))
+
         go : (b : Bands) → GatheredAt b r → record { next = r .next; kind = kind; key = at + 3; len = n; rated = rated } ≡ replyTo at (withBands kind (take n (drop (at + 3) s)) b)
         go broken g = absurd (z g)
         go (ended [] next) g = absurd (c (g .1 .count))
@@ -151,7 +156,7 @@ module _ (s : List ℕ) (at : ℕ) (kind : Kind) (n : ℕ) (span : n ≡ keySpan
             ∙ ap (λ (k : ℕ). record { next = next; kind = kind; key = at + 3; len = k; rated = rated }) size
             ∙ ap (λ (x : Rated). record { next = next; kind = kind; key = at + 3; len = length (take n (drop (at + 3) s)); rated = x }) (e ∙ judged-same kind (b ∷ bs) r (g .1))
             ∙ sym (ap (λ (t : Bool). cond t (record { next = next; kind = kind; key = at + 3; len = length (take n (drop (at + 3) s)); rated = judged kind (b ∷ bs) }) noReply)
-              (le-leb next (at + 512) (omega (arith, g .0))))
+            (le-leb next (at + 512) (omega (arith, g .0))))
 
 -- the ways out of `reply_at`
 module _ (s : List ℕ) (at : ℕ) where
@@ -188,6 +193,7 @@ reply-keyed s at r e = subst (Keyed s) (sym e) (go (requestAt s at) (request-ok 
   where
     empty : Keyed s noReply
     empty = record { within = omega arith; most = omega arith }
+
     go : (a : Asked) → RequestGood s at a → Keyed s (replyTo at a)
     go Asked.nothing g = empty
     go (asked kind key bands next) g = by-test (leb next (at + 512))
@@ -197,6 +203,7 @@ reply-keyed s at r e = subst (Keyed s) (sym e) (go (requestAt s at) (request-ok 
           where
             within : at + 3 + length key ≤ length s
             within = omega (arith, fits s (Rattle.line.specs.Texts.requestText kind key bands) at (omega (arith, text-length kind key bands)) (g .stands), text-length kind key bands)
+
         by-test : (t : Bool) → Keyed s (cond t (record { next = next; kind = kind; key = at + 3; len = length key; rated = judged kind bands }) noReply)
         by-test true = full
         by-test false = empty

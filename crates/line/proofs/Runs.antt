@@ -30,9 +30,10 @@ step-ahead s at room false last h =
   where
     still : Step
     still = record { next = at; text = []; skipping = false }
+
     go : (t u : Bool) → PieceGood s at (pieceAt s at last)
         → (at ≤ cond t still (cond u (record { next = pieceAt s at last .next; text = replyText s (pieceAt s at last .reply); skipping = pieceAt s at last .skipping }) still) .next)
-          × (cond t still (cond u (record { next = pieceAt s at last .next; text = replyText s (pieceAt s at last .reply); skipping = pieceAt s at last .skipping }) still) .next ≤ length s)
+        × (cond t still (cond u (record { next = pieceAt s at last .next; text = replyText s (pieceAt s at last .reply); skipping = pieceAt s at last .skipping }) still) .next ≤ length s)
     go true u g = (omega arith, h)
     go false true g = (g .ahead, g .within)
     go false false g = (omega arith, h)
@@ -50,8 +51,10 @@ still-text s at room false last e =
   where
     still : Step
     still = record { next = at; text = []; skipping = false }
+
     told : Step
     told = record { next = pieceAt s at last .next; text = replyText s (pieceAt s at last .reply); skipping = pieceAt s at last .skipping }
+
     go : (t u : Bool) → eqb (pieceAt s at last .next) at ≡ t → cond t still (cond u told still) .next ≡ at → cond t still (cond u told still) .text ≡ []
     go true u f e = refl
     go false true f e = absurd (eqb-false (pieceAt s at last .next) at f e)
@@ -104,7 +107,8 @@ going-start s l skip last = record {
   within = omega arith;
   wrote-is = refl;
   fits = omega arith;
-  out-is = refl }
+  out-is = refl;
+}
 
 pub going-length : (s l : List ℕ) (skip₀ last : Bool) (used wrote : ℕ) (skip : Bool) (out : List ℕ) → Going s l skip₀ last used wrote skip out → length out ≡ length l
 going-length s l skip₀ last used wrote skip out g = ap length (g .out-is) ∙ front-length (g .text) l (g .fits)
@@ -137,7 +141,8 @@ module _ (s l : List ℕ) (skip₀ last : Bool) (used wrote : ℕ) (skip : Bool)
         skipping = refl;
         out = g .out-is;
         within = g .within;
-        fits = omega (arith, g .wrote-is, g .fits) })
+        fits = omega (arith, g .wrote-is, g .fits);
+      })
 
   pub going-out : length s ≤ used → Answered (blockOf s (length l) skip₀ last) s l (record { used = used; wrote = wrote; skipping = skip }) out
   going-out h = ended (blockFrom (g .fuel) s (length l) used (g .text) skip last) (g .same) (block-out s (length l) used (g .text) skip last (g .fuel) h)
@@ -169,19 +174,21 @@ module _ (s l : List ℕ) (skip₀ last : Bool) (used wrote : ℕ) (skip : Bool)
           text = g .text ++ now-step .text;
           fuel = n .0;
           same = g .same ∙ ap (λ (k : ℕ). blockFrom k s (length l) used (g .text) skip last) (n .1)
-            ∙ block-on s (length l) used (g .text) skip last (n .0) h (λ q. f (t .next ∙ ap (λ (x : Step). x .next) steps ∙ q))
-            ∙ ap (λ (x : Step). blockFrom (n .0) s (length l) (x .next) (g .text ++ x .text) (x .skipping) last) (sym steps)
-            ∙ ap (λ (k : ℕ). blockFrom (n .0) s (length l) k (g .text ++ now-step .text) (now-step .skipping) last) (sym (t .next))
-            ∙ ap (λ (b : Bool). blockFrom (n .0) s (length l) (r .next) (g .text ++ now-step .text) b last) (sym (t .skipping));
+              ∙ block-on s (length l) used (g .text) skip last (n .0) h (λ q. f (t .next ∙ ap (λ (x : Step). x .next) steps ∙ q))
+              ∙ ap (λ (x : Step). blockFrom (n .0) s (length l) (x .next) (g .text ++ x .text) (x .skipping) last) (sym steps)
+              ∙ ap (λ (k : ℕ). blockFrom (n .0) s (length l) k (g .text ++ now-step .text) (now-step .skipping) last) (sym (t .next))
+              ∙ ap (λ (b : Bool). blockFrom (n .0) s (length l) (r .next) (g .text ++ now-step .text) b last) (sym (t .skipping));
           enough = omega (arith, n .1, g .enough, turn-ahead f);
           within = turn-ahead f .1;
           wrote-is = omega (arith, t .wrote-is, g .wrote-is, length-append (g .text) (now-step .text));
           fits = omega (arith, t .fits, g .wrote-is, length-append (g .text) (now-step .text), going-length s l skip₀ last used wrote skip out g);
-          out-is = t .out ∙ home }
+          out-is = t .out ∙ home;
+        }
       where
         fuels : (n : ℕ) → g .fuel ≡ n → (m : ℕ) × (g .fuel ≡ suc m)
         fuels zero e = absurd (omega (arith, g .enough))
         fuels (suc m) e = (m, e)
+
         home : take wrote out ++ (now-step .text ++ drop (wrote + length (now-step .text)) out) ≡ front (g .text ++ now-step .text) l
         home =
             ap (λ (x : List ℕ). take wrote x ++ (now-step .text ++ drop (wrote + length (now-step .text)) x)) (g .out-is)

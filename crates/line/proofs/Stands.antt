@@ -57,10 +57,11 @@ taken s (b ∷ t) at h =
 -- a text stands in itself, wherever it is
 pub itself : (p t q : List ℕ) (at : ℕ) → length p ≡ at → Stands (p ++ (t ++ q)) at t
 itself p [] q at e = tt
-itself p (b ∷ t) q at e =
-    ( record { within = omega (arith, length-append p (b ∷ (t ++ q))); is = getD-at p b (t ++ q) 0 at e }
-    , subst (λ (l : List ℕ). Stands l (suc at) t) (shift p b (t ++ q))
-      (itself (p ++ (b ∷ [])) t q (suc at) (omega (arith, length-append p (b ∷ [])))) )
+itself p (b ∷ t) q at e = (
+  record { within = omega (arith, length-append p (b ∷ (t ++ q))); is = getD-at p b (t ++ q) 0 at e },
+  subst (λ (l : List ℕ). Stands l (suc at) t) (shift p b (t ++ q))
+      (itself (p ++ (b ∷ [])) t q (suc at) (omega (arith, length-append p (b ∷ [])))),
+)
   where
     shift : (p : List ℕ) (b : ℕ) (l : List ℕ) → (p ++ (b ∷ [])) ++ l ≡ p ++ (b ∷ l)
     shift [] b l = refl

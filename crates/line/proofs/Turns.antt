@@ -46,6 +46,7 @@ module _ (s : List ℕ) (i : ℕ) where
     where
       next : (i : ℕ) → suc i ≡ i + 1
       next i = omega arith
+
       shift : (n : ℕ) → movedBy i (oneMore n) ≡ movedBy (i + 1) n
       shift zero = refl
       shift (suc n) = omega arith
@@ -79,14 +80,14 @@ module _ (s : List ℕ) (at : ℕ) (last : Bool) (r : Reply) (e : r ≡ replyAt 
   unfolding pieceAt
   by-none p z f =
       f ∙ sym (ap (λ (t : Bool). cond t (feedPiece at (length s) (feedAfter s at) last) (record { next = replyAt s at .next; skipping = false; reply = replyAt s at }))
-        (eq-eqb (replyAt s at .next) 0 (sym (ap (λ (x : Reply). x .next) e) ∙ z)))
+      (eq-eqb (replyAt s at .next) 0 (sym (ap (λ (x : Reply). x .next) e) ∙ z)))
 
   pub piece-some : (r .next ≡ 0 → ⊥) → record { next = r .next; skipping = false; reply = r } ≡ pieceAt s at last
   unfolding pieceAt
   piece-some z =
       ap (λ (x : Reply). record { next = x .next; skipping = false; reply = x }) e
       ∙ sym (ap (λ (t : Bool). cond t (feedPiece at (length s) (feedAfter s at) last) (record { next = replyAt s at .next; skipping = false; reply = replyAt s at }))
-        (ne-eqb (replyAt s at .next) 0 (λ q. z (ap (λ (x : Reply). x .next) e ∙ q))))
+      (ne-eqb (replyAt s at .next) 0 (λ q. z (ap (λ (x : Reply). x .next) e ∙ q))))
 
   pub piece-feed : (f : ℕ) → r .next ≡ 0 → f ≡ feedAfter s at → (f ≡ 0 → ⊥) → record { next = f; skipping = false; reply = noReply } ≡ pieceAt s at last
   piece-feed zero z g n = absurd (n refl)
@@ -118,10 +119,12 @@ reply-ahead s at = go (requestAt s at) (request-ok s at)
       where
         reply : Reply
         reply = record { next = next; kind = kind; key = at + 3; len = length key; rated = judged kind bands }
+
         by-length : (t : Bool) → (cond t reply noReply .next ≡ 0 → ⊥) → (at < cond t reply noReply .next) × (cond t reply noReply .next ≤ length s)
-        by-length true z =
-            ( omega (arith, g .ends, text-length kind key bands)
-            , omega (arith, g .ends, fits s (Rattle.line.specs.Texts.requestText kind key bands) at (omega (arith, text-length kind key bands)) (g .stands)) )
+        by-length true z = (
+          omega (arith, g .ends, text-length kind key bands),
+          omega (arith, g .ends, fits s (Rattle.line.specs.Texts.requestText kind key bands) at (omega (arith, text-length kind key bands)) (g .stands)),
+        )
         by-length false z = absurd (z refl)
 
 pub record PieceGood (s : List ℕ) (at : ℕ) (p : Piece) : Type 0 where
@@ -138,9 +141,11 @@ piece-good s at last h = go (eqb (replyAt s at .next) 0) refl
     rest true u = record { ahead = h; within = omega arith; keyed = none-keyed s }
     rest false true = record { ahead = h; within = omega arith; keyed = none-keyed s }
     rest false false = record { ahead = omega arith; within = h; keyed = none-keyed s }
+
     by-feed : (n : ℕ) → feedAfter s at ≡ n → PieceGood s at (feedPiece at (length s) n last)
     by-feed zero e = rest (leb (at + 512) (length s)) last
     by-feed (suc n) e = record { ahead = omega (arith, feed-bounds s at n e); within = feed-bounds s at n e .1; keyed = none-keyed s }
+
     go : (t : Bool) → eqb (replyAt s at .next) 0 ≡ t
         → PieceGood s at (cond t (feedPiece at (length s) (feedAfter s at) last) (record { next = replyAt s at .next; skipping = false; reply = replyAt s at }))
     go true e = by-feed (feedAfter s at) refl
@@ -162,7 +167,8 @@ idle out w r next skipping h e = record {
   wrote-is = ap (λ (x : Turn). x .wrote) e ∙ omega arith;
   skipping = ap (λ (x : Turn). x .skipping) e;
   out = none-placed out w;
-  fits = omega arith }
+  fits = omega arith;
+}
 
 module _ (s : List ℕ) (at : ℕ) (out : List ℕ) (w : ℕ) (skipping last : Bool) (room : w ≤ length out) where
   abbrev step : Step
@@ -224,9 +230,9 @@ module _ (s : List ℕ) (at : ℕ) (out : List ℕ) (w : ℕ) (skipping last : B
             subst (λ (l : List ℕ). Turned step out w (record { next = at; wrote = w; skipping = false }) l)
             (sym (after-is ∙ ap (λ (b : Bool). cond b (take w out ++ (replyText s (p .reply) ++ drop (w + length (replyText s (p .reply))) out)) out) h))
             (by-step still (record { next = at; wrote = w; skipping = false }) out
-              (some ∙ ap (λ (b : Bool). cond b (record { next = p .next; text = replyText s (p .reply); skipping = p .skipping }) still)
-                (lt-leb (length (replyText s (p .reply))) (length out - w) (omega (arith, leb-false (w + length (replyText s (p .reply))) (length out) h))))
-              (idle out w (record { next = at; wrote = w; skipping = false }) at false room refl))
+            (some ∙ ap (λ (b : Bool). cond b (record { next = p .next; text = replyText s (p .reply); skipping = p .skipping }) still)
+            (lt-leb (length (replyText s (p .reply))) (length out - w) (omega (arith, leb-false (w + length (replyText s (p .reply))) (length out) h))))
+            (idle out w (record { next = at; wrote = w; skipping = false }) at false room refl))
 
     pub turn-told : (n : ℕ) → x ≡ wrote.Bytes n
         → (w + n ≤ length out) × Turned step out w (record { next = p .next; wrote = w + n; skipping = p .skipping }) after
@@ -241,14 +247,16 @@ module _ (s : List ℕ) (at : ℕ) (out : List ℕ) (w : ℕ) (skipping last : B
         go true h =
             let fit : w + length (replyText s (p .reply)) ≤ length out = leb-true (w + length (replyText s (p .reply))) (length out) h in
             let q : wrote.Bytes n ≡ wrote.Bytes (length (replyText s (p .reply))) = sym f ∙ fitting true h in
-            let m : n ≡ length (replyText s (p .reply)) = cc in
-            ( omega arith
-            , by-step (record { next = p .next; text = replyText s (p .reply); skipping = p .skipping }) (record { next = p .next; wrote = w + n; skipping = p .skipping }) after
-              (some ∙ ap (λ (b : Bool). cond b (record { next = p .next; text = replyText s (p .reply); skipping = p .skipping }) still)
-                (le-leb (length (replyText s (p .reply))) (length out - w) (omega arith)))
-              (record {
-                next = refl;
-                wrote-is = ap (λ (k : ℕ). w + k) m;
-                skipping = refl;
-                out = after-is ∙ ap (λ (b : Bool). cond b (take w out ++ (replyText s (p .reply) ++ drop (w + length (replyText s (p .reply))) out)) out) h;
-                fits = fit }) )
+            let m : n ≡ length (replyText s (p .reply)) = cc in (
+              omega arith,
+              by-step (record { next = p .next; text = replyText s (p .reply); skipping = p .skipping }) (record { next = p .next; wrote = w + n; skipping = p .skipping }) after
+                  (some ∙ ap (λ (b : Bool). cond b (record { next = p .next; text = replyText s (p .reply); skipping = p .skipping }) still)
+                  (le-leb (length (replyText s (p .reply))) (length out - w) (omega arith)))
+                  (record {
+                    next = refl;
+                    wrote-is = ap (λ (k : ℕ). w + k) m;
+                    skipping = refl;
+                    out = after-is ∙ ap (λ (b : Bool). cond b (take w out ++ (replyText s (p .reply) ++ drop (w + length (replyText s (p .reply))) out)) out) h;
+                    fits = fit;
+                  }),
+            )

@@ -43,13 +43,15 @@ module _ (s : List ℕ) (at : ℕ) (before : List Band) where
   one-band b next (ended all nx) e f g = record {
     new = b ∷ g .new;
     all-is = g .all-is ∙ append-assoc before (b ∷ []) (g .new);
-    stands =
-      ( record { within = inside s at (omega arith); is = e }
-      , joined s (bandText b) (others (map bandText (g .new))) (suc at)
-        (move s (bandText b) (at + 1) (suc at) (omega arith) (f .stands))
-        (move s (others (map bandText (g .new))) next (suc at + length (bandText b)) (omega (arith, f .ends)) (g .stands)) );
+    stands = (
+      record { within = inside s at (omega arith); is = e },
+      joined s (bandText b) (others (map bandText (g .new))) (suc at)
+          (move s (bandText b) (at + 1) (suc at) (omega arith) (f .stands))
+          (move s (others (map bandText (g .new))) next (suc at + length (bandText b)) (omega (arith, f .ends)) (g .stands)),
+    );
     ends = omega (arith, g .ends, f .ends, length-append (bandText b) (others (map bandText (g .new))));
-    ok = BandsOk.more (f .small) (g .ok) }
+    ok = BandsOk.more (f .small) (g .ok);
+  }
 
 pub bands-ok : (n : ℕ) (s : List ℕ) (at : ℕ) (before : List Band) → BandsGood s at before (bandsFrom n s at before)
 unfolding bandsFrom others
@@ -64,6 +66,7 @@ bands-ok (suc n) s at before =
     by-band e (found b next) f ok r =
         subst (BandsGood s at before) (sym (bands-tab n s at before b next e f))
         (one-band s at before b next (bandsFrom n s next (before ++ (b ∷ []))) e ok (r next b))
+
     by-byte : (t u : Bool) → eqb (byteAt s at) 9 ≡ t → eqb (byteAt s at) 10 ≡ u
         → ((next : ℕ) (b : Band) → BandsGood s next (before ++ (b ∷ [])) (bandsFrom n s next (before ++ (b ∷ []))))
         → BandsGood s at before (bandsFrom (suc n) s at before)
@@ -78,7 +81,8 @@ bands-ok (suc n) s at before =
           all-is = sym (mathlib.Core.List.append-nil before);
           stands = (record { within = inside s at (omega arith); is = e }, tt);
           ends = refl;
-          ok = BandsOk.none }
+          ok = BandsOk.none;
+        }
     by-byte false false e f r =
         subst (BandsGood s at before) (sym (bands-none n s at before (eqb-false (byteAt s at) 9 e) (eqb-false (byteAt s at) 10 f))) tt
 
@@ -101,8 +105,8 @@ bands-here (suc n) s at before (b ∷ bs) f (BandsOk.more one ok) h =
     let rest' : Stands s next (others (map bandText bs)) = move s (others (map bandText bs)) (suc at + length (bandText b)) next (omega arith) rest in
     let hd = head-of s next (map bandText bs) rest' in
     bands-tab n s at before b next (h .0 .is)
-      (band-here s (at + 1) b one (move s (bandText b) (suc at) (at + 1) (omega arith) (front-part s (bandText b) (others (map bandText bs)) (suc at) (h .1)))
-        (omega (arith, digit-low (byteAt s next) (omega arith))))
+    (band-here s (at + 1) b one (move s (bandText b) (suc at) (at + 1) (omega arith) (front-part s (bandText b) (others (map bandText bs)) (suc at) (h .1)))
+    (omega (arith, digit-low (byteAt s next) (omega arith))))
     ∙ bands-here n s next (before ++ (b ∷ [])) bs (omega arith) ok rest'
     ∙ ap (λ (l : List Band). ended l (next + length (others (map bandText bs)))) (append-assoc before (b ∷ []) bs)
     ∙ ap (ended (before ++ (b ∷ bs))) (omega (arith, length-append (bandText b) (others (map bandText bs))))
@@ -165,19 +169,21 @@ kind-ok s at =
     (cond (eqb (byteAt s at) 73) (cond (eqb (byteAt s (at + 1)) 51) (named.Is I3) (cond (eqb (byteAt s (at + 1)) 49) (named.Is I1) named.Nothing)) named.Nothing)
     (λ e. by-digit 65 A3 A1 refl refl (eqb-true (byteAt s at) 65 e) (omega arith))
     (λ e. if-kind s at (eqb (byteAt s at) 73) (cond (eqb (byteAt s (at + 1)) 51) (named.Is I3) (cond (eqb (byteAt s (at + 1)) 49) (named.Is I1) named.Nothing)) named.Nothing
-      (λ f. by-digit 73 I3 I1 refl refl (eqb-true (byteAt s at) 73 f) (omega arith)) (λ f. tt))
+    (λ f. by-digit 73 I3 I1 refl refl (eqb-true (byteAt s at) 73 f) (omega arith)) (λ f. tt))
   where
     two : (b d : ℕ) → byteAt s at ≡ b → 0 < b → byteAt s (at + 1) ≡ d → 0 < d → Stands s at (b ∷ d ∷ [])
-    two b d e p f q =
-        ( record { within = inside s at (omega arith); is = e }
-        , move s (d ∷ []) (at + 1) (suc at) (omega arith) (record { within = inside s (at + 1) (omega arith); is = f }, tt) )
+    two b d e p f q = (
+      record { within = inside s at (omega arith); is = e },
+      move s (d ∷ []) (at + 1) (suc at) (omega arith) (record { within = inside s (at + 1) (omega arith); is = f }, tt),
+    )
+
     by-digit : (b : ℕ) (x y : Kind) → kindText x ≡ b ∷ 51 ∷ [] → kindText y ≡ b ∷ 49 ∷ [] → byteAt s at ≡ b → 0 < b
         → KindGood s at (cond (eqb (byteAt s (at + 1)) 51) (named.Is x) (cond (eqb (byteAt s (at + 1)) 49) (named.Is y) named.Nothing))
     by-digit b x y p q e z =
         if-kind s at (eqb (byteAt s (at + 1)) 51) (named.Is x) (cond (eqb (byteAt s (at + 1)) 49) (named.Is y) named.Nothing)
         (λ f. subst (Stands s at) (sym p) (two b 51 e z (eqb-true (byteAt s (at + 1)) 51 f) (omega arith)))
         (λ f. if-kind s at (eqb (byteAt s (at + 1)) 49) (named.Is y) named.Nothing
-          (λ g. subst (Stands s at) (sym q) (two b 49 e z (eqb-true (byteAt s (at + 1)) 49 g) (omega arith))) (λ g. tt))
+        (λ g. subst (Stands s at) (sym q) (two b 49 e z (eqb-true (byteAt s (at + 1)) 49 g) (omega arith))) (λ g. tt))
 
 pub kind-two : (k : Kind) → length (kindText k) ≡ 2
 kind-two A3 = refl
@@ -193,6 +199,7 @@ kind-here s at k h = go k h
       where
         index : (i : ℕ) → i + 1 ≡ suc i
         index i = omega arith
+
     go : (k : Kind) → Stands s at (kindText k) → kindAt s at ≡ named.Is k
     go A3 h = sym (thirds 51 (named.Is A3) (named.Is A1) refl ∙ kind-A s at 65 51 (sym (h .0 .is)) (second 65 51 h) refl)
     go A1 h = sym (octaves 49 (named.Is A3) (named.Is A1) (omega arith) refl ∙ kind-A s at 65 49 (sym (h .0 .is)) (second 65 49 h) refl)
@@ -248,15 +255,17 @@ module _ (s : List ℕ) (at : ℕ) (kind : Kind) (named-here : Stands s at (kind
         key-ok = record { some = omega (arith, key-length); most = omega (arith, key-length); each = span-key (drop (at + 3) s) };
         bands-ok = subst BandsOk (sym same) (g .ok);
         some = omega arith;
-        key-is = ap (λ (k : ℕ). take k (drop (at + 3) s)) (sym key-length) }
+        key-is = ap (λ (k : ℕ). take k (drop (at + 3) s)) (sym key-length);
+      }
     where
       text-made : (all : List Band) → Stands s (at + 3 + n) (others (map bandText all)) → Stands s at (requestText kind key all)
       text-made all h =
-          joined s (kindText kind) (9 ∷ (key ++ others (map bandText all))) at named-here
-          ( subst (λ (i : ℕ). Stood s i 9) (ap (λ (k : ℕ). at + k) (sym (kind-two kind))) (record { within = inside s (at + 2) (omega arith); is = tab })
-          , joined s key (others (map bandText all)) (suc (at + length (kindText kind)))
-            (move s key (at + 3) (suc (at + length (kindText kind))) (omega (arith, kind-two kind)) (part-stands n s (at + 3) room))
-            (move s (others (map bandText all)) (at + 3 + n) (suc (at + length (kindText kind)) + length key) (omega (arith, kind-two kind, key-length)) h) )
+          joined s (kindText kind) (9 ∷ (key ++ others (map bandText all))) at named-here (
+            subst (λ (i : ℕ). Stood s i 9) (ap (λ (k : ℕ). at + k) (sym (kind-two kind))) (record { within = inside s (at + 2) (omega arith); is = tab }),
+            joined s key (others (map bandText all)) (suc (at + length (kindText kind)))
+                (move s key (at + 3) (suc (at + length (kindText kind))) (omega (arith, kind-two kind)) (part-stands n s (at + 3) room))
+                (move s (others (map bandText all)) (at + 3 + n) (suc (at + length (kindText kind)) + length key) (omega (arith, kind-two kind, key-length)) h),
+          )
 
   key-made : RequestGood s at (withKey kind s (at + 3) n)
   unfolding withKey bandsAt
@@ -298,21 +307,29 @@ request-here s at kind key (b ∷ bs) k ok some h =
   where
     parts : Stands s at (kindText kind ++ (9 ∷ (key ++ others (map bandText (b ∷ bs)))))
     parts = h
+
     kind-part : Stands s at (kindText kind)
     kind-part = front-part s (kindText kind) (9 ∷ (key ++ others (map bandText (b ∷ bs)))) at parts
+
     rest : Stands s (at + 2) (9 ∷ (key ++ others (map bandText (b ∷ bs))))
     rest = move s (9 ∷ (key ++ others (map bandText (b ∷ bs)))) (at + length (kindText kind)) (at + 2) (omega (arith, kind-two kind))
         (back-part s (kindText kind) (9 ∷ (key ++ others (map bandText (b ∷ bs)))) at parts)
+
     tab : byteAt s (at + 2) ≡ 9
     tab = rest .0 .is
+
     tail : Stands s (at + 3) (key ++ others (map bandText (b ∷ bs)))
     tail = move s (key ++ others (map bandText (b ∷ bs))) (suc (at + 2)) (at + 3) (omega arith) (rest .1)
+
     key-part : Stands s (at + 3) key
     key-part = front-part s key (others (map bandText (b ∷ bs))) (at + 3) tail
+
     bands-part : Stands s (at + 3 + length key) (others (map bandText (b ∷ bs)))
     bands-part = back-part s key (others (map bandText (b ∷ bs))) (at + 3) tail
+
     span : keySpan (drop (at + 3) s) ≡ length key
     span = key-here key s (at + 3) (k .each) key-part (head-of s (at + 3 + length key) (map bandText (b ∷ bs)) bands-part .0)
+
     read : Asked
     read = withBands kind (take (length key) (drop (at + 3) s)) (bandsFrom (suc (length s)) s (at + 3 + length key) [])
 
@@ -334,8 +351,10 @@ text-of line kind key bands e = go (requestAt line 0) (request-ok line 0) e
   where
     one : (k k' : Kind) (l l' : List ℕ) (b b' : List Band) → request k l b ≡ request k' l' b' → (k ≡ k') × (l ≡ l') × (b ≡ b')
     one k k' l l' b b' e = ((cc), (cc), (cc))
+
     never : (k : Kind) (l : List ℕ) (b : List Band) → Request.none ≡ request k l b → ⊥
     never k l b e = let z : _≡_ {A = ℕ} 0 1 = cc in omega arith
+
     go : (a : Asked) → RequestGood line 0 a → whole (length line) a ≡ request kind key bands → IsText line kind key bands
     go Asked.nothing g e = absurd (never kind key bands e)
     go (asked k l b next) g e = by-tests (eqb next (length line)) (leb next 512) refl refl e
@@ -353,10 +372,10 @@ text-of line kind key bands e = go (requestAt line 0) (request-ok line 0) e
               key-ok = g .key-ok;
               bands-ok = g .bands-ok;
               some = g .some;
-              short = omega (arith, leb-true next 512 q) })))
+              short = omega (arith, leb-true next 512 q);
+            })))
         by-tests true false p q e = absurd (never kind key bands e)
         by-tests false u p q e = absurd (never kind key bands e)
-
 
 pub means : (line : List ℕ) (kind : Kind) (key : List ℕ) (bands : List Band) → IsText line kind key bands → requestOf line ≡ request kind key bands
 unfolding requestOf

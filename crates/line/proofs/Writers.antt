@@ -146,8 +146,17 @@ sheet-length s =
     let f3 : List (List ℕ) = termText (s .second) ∷ f4 in
     let f2 : List (List ℕ) = numberText (s .first .0) ∷ f3 in
     let f1 : List (List ℕ) = numberText (s .rating .0) ∷ f2 in
-    omega (arith, others-length (48 ∷ []) f1, others-length (numberText (s .rating .0)) f2, others-length (numberText (s .first .0)) f3,
-      others-length (termText (s .second)) f4, others-length (decimal (s .shifts)) f5, others-length (setText (s .limit)) [], end-length, mark-length (s .limit))
+    omega (
+      arith,
+      others-length (48 ∷ []) f1,
+      others-length (numberText (s .rating .0)) f2,
+      others-length (numberText (s .first .0)) f3,
+      others-length (termText (s .second)) f4,
+      others-length (decimal (s .shifts)) f5,
+      others-length (setText (s .limit)) [],
+      end-length,
+      mark-length (s .limit),
+    )
 
 pub refused-length : (n : ℕ) → length (others (decimal n ∷ [])) ≡ 2 + length (decimal n)
 refused-length n = omega (arith, others-length (decimal n) [], end-length)
@@ -173,7 +182,6 @@ number-front z l h e = e ∙ ap (λ (t : List ℕ). front (9 ∷ t) l) (sym (num
 
 pub count-front : (z : ℤ) (l : List ℕ) {xs : List ℕ} → N z ≡ 0 → xs ≡ front (9 ∷ decimal (P z)) l → xs ≡ front (9 ∷ numberText z) l
 count-front z l h e = e ∙ ap (λ (t : List ℕ). front (9 ∷ t) l) (sym (number-above z h))
-
 
 -- whole answers
 pub reply-none : (s : List ℕ) (r : Reply) → r .next ≡ 0 → replyText s r ≡ noRequestText

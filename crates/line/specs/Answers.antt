@@ -84,8 +84,9 @@ judgedBy (suc (suc (suc (suc n)))) rated = Refused BandRange
 
 unfoldable pub judged : Kind → List Band → Rated
 judged kind bands = elim (eqb (length bands) (bandsOf kind)) [
-    true ↦ judgedBy (firstFault bands) (ratedOf kind (setOf bands))
-  | false ↦ Refused BandCount ]
+  | true ↦ judgedBy (firstFault bands) (ratedOf kind (setOf bands))
+  | false ↦ Refused BandCount
+]
 
 -- the answer of a line, whatever it is
 abbrev pub answerTo : Request → List ℕ

@@ -75,10 +75,12 @@ blockFrom zero s room at text skipping last = record { used = at; text = text; s
 blockFrom (suc more) s room at text skipping last =
     let step = stepAt s at (room - length text) skipping last in
     elim (ltb at (length s)) [
-      true ↦ elim (eqb (step .next) at) [
-        true ↦ record { used = at; text = text; skipping = skipping }
-      | false ↦ blockFrom more s room (step .next) (text ++ step .text) (step .skipping) last ]
-    | false ↦ record { used = at; text = text; skipping = skipping } ]
+      | true ↦ elim (eqb (step .next) at) [
+        | true ↦ record { used = at; text = text; skipping = skipping }
+        | false ↦ blockFrom more s room (step .next) (text ++ step .text) (step .skipping) last
+      ]
+      | false ↦ record { used = at; text = text; skipping = skipping }
+    ]
 
 unfoldable pub blockOf : List ℕ → ℕ → Bool → Bool → Block
 blockOf s room skipping last = blockFrom (length s) s room 0 [] skipping last

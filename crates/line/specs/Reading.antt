@@ -79,8 +79,9 @@ unfoldable pub bandsFrom : ℕ → List ℕ → ℕ → List Band → Bands
 bandsFrom zero s at before = broken
 bandsFrom (suc more) s at before =
     elim (eqb (byteAt s at) 9) [
-      true ↦ elim (bandAt s (at + 1)) [ nothing ↦ broken | found b next ↦ bandsFrom more s next (before ++ (b ∷ [])) ]
-    | false ↦ elim (eqb (byteAt s at) 10) [ true ↦ ended before (at + 1) | false ↦ broken ] ]
+      | true ↦ elim (bandAt s (at + 1)) [ nothing ↦ broken | found b next ↦ bandsFrom more s next (before ++ (b ∷ [])) ]
+      | false ↦ elim (eqb (byteAt s at) 10) [ true ↦ ended before (at + 1) | false ↦ broken ]
+    ]
 
 -- each band takes at least a byte
 unfoldable pub bandsAt : List ℕ → ℕ → Bands

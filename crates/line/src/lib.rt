@@ -12,6 +12,5 @@ mod texts;
 
 pub use blocks::Progress;
 pub use blocks::answer_block;
-
 pub use lines::Wrote;
 pub use lines::answer_line;

@@ -21,7 +21,7 @@ pub const PLAN: [(Call, &str, usize); 13] = [
     (Call::Grade, "grade", 40_000),
     (Call::Lift, "lift", 50_000),
     (Call::Line, "line", 150_000),
-    (Call::Block, "block", 4_000),
+    (Call::Block, "block", 2_000),
 ];
 
 /// Frames are made and sent so many at a time.

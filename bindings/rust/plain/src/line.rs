@@ -128,7 +128,7 @@ struct Text {
 }
 
 impl Text {
-    /// Some bytes of at most the head's length.
+    /// A line that starts with these bytes, a kind and a key at most.
     #[inline(always)]
     fn starting(head: &[u8]) -> Text {
         let mut bytes = [0; 72];

@@ -1,7 +1,6 @@
 -- `desk_c::given::give` meets its contract. The invariant: the numbers so far stand in front. Assumes nothing.
-use Prim.Native.Nat.{ℕ, _-_}
+use Prim.Native.Nat.{_-_}
 use native.Mathlib.Omega.{arith}
-use borrow.Author.Needs.{needs}
 use lib.IntN.{pos}
 use lib.ListN.{getD}
 use Rattle.quantity.proofs.Rim.{back}

@@ -3,7 +3,6 @@ use borrow.Author.Needs.{needs}
 use mathlib.Core.Path.{sym, _∙_, ap}
 use Prim.Native.Nat.{_+_}
 use lib.ListN.{take}
-use Rattle.intake.specs.declared.lists.Outcome.{Outcome}
 use Rattle.desk_c.specs.Answers.Answer.{numbers}
 use Rattle.desk_c.specs.Rooms.{setAnswer, intakeAnswer}
 use Rattle.desk_c.proofs.Gives.{given}

@@ -1,5 +1,4 @@
 -- `desk_c::given::marks_of` meets its contract: sixteen bits fit. Assumes nothing.
-use borrow.Author.Needs.{needs}
 use native.Mathlib.Omega.{arith}
 use Rattle.quantity.proofs.Rim.{as-pos}
 use Rattle.desk_c.proofs.given.marks_of.Statement.{statement}

@@ -1,5 +1,5 @@
 -- `desk_c::lists::set_from` meets its contract. The invariant: the values so far are those of the array. Assumes nothing.
-use Prim.Native.Nat.{ℕ, _-_, _%_}
+use Prim.Native.Nat.{_-_, _%_}
 use mathlib.Core.Path.{refl, ap}
 use mathlib.Core.List.{List}
 use native.Mathlib.Omega.{arith}

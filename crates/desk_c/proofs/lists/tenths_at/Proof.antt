@@ -3,7 +3,6 @@ use borrow.Author.Needs.{needs}
 use mathlib.Core.Path.{sym, ap}
 use lib.IntN.{ℤ, pos}
 use lib.ListN.{List·getD-eq-default}
-use Rattle.quantity.specs.declared.quantities.Tenths.{Tenths}
 use Rattle.desk_c.proofs.lists.tenths_at.Statement.{statement}
 use Rattle.desk_c.proofs.lists.tenths_at.Tie as tie
 

@@ -1,8 +1,7 @@
 -- `desk_c::ratings::imbrolt_rate` meets its contract: the kind of the number, then the rating. Assumes nothing.
 use borrow.Author.Needs.{needs}
-use mathlib.Core.Path.{_≡_, sym, _∙_, ap, subst}
+use mathlib.Core.Path.{sym, _∙_, ap, subst}
 use Rattle.rating.specs.Sheets.{ratedOf}
-use Rattle.rating.specs.declared.kinds.Kind.{Kind}
 use Rattle.desk_c.specs.Lists.{setFrom}
 use Rattle.desk_c.specs.Ratings.{kindOf, ratedAnswer, rateAnswer, Fitting}
 use Rattle.desk_c.proofs.Gives.{given, refuses, by-none, by-one}

@@ -1,10 +1,9 @@
 -- `desk_c::ratings::imbrolt_rate_readings` meets its contract: the kind of the number, then the rating. Assumes nothing.
 use borrow.Author.Needs.{needs}
-use mathlib.Core.Path.{_≡_, sym, _∙_, ap, subst}
+use mathlib.Core.Path.{sym, _∙_, ap, subst}
 use mathlib.Core.List.{List}
 use lib.ListN.{length}
 use Rattle.quantity.specs.declared.quantities.Reading.{Reading}
-use Rattle.rating.specs.declared.kinds.Kind.{Kind}
 use Rattle.desk.specs.Calls.{readingsRated}
 use Rattle.desk_c.specs.Lists.{readingsFrom}
 use Rattle.desk_c.specs.Ratings.{kindOf, ratedAnswer, readingsAnswer, Fitting}

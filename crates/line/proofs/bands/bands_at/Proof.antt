@@ -103,13 +103,13 @@ loop-again c =
     let l = c .before .before .before .before .before .before .loop in
     ⊎-elim
     (λ w. again-few (a .s .now) (a .start) (l .values) (l .marks) (l .weight) (l .count) (l .fault) (l .at) (l .inv)
-      (c .before .before .before .band-at .result) (sym (c .before .before .before .before .before .byte .ensures) ∙ c .before .before .before .before .if1 .taken) (c .before .before .before .band-at .ensures) (c .before .before .if2 .left)
-      (c .before .if3 .values) (c .before .if3 .marks) (c .before .if3 .weight) (c .first-of .result) (c .first-of .ensures)
-      (w .2 .result) (w .2 .ensures) (w .0 .taken) (w .3) (w .4) (w .5))
+    (c .before .before .before .band-at .result) (sym (c .before .before .before .before .before .byte .ensures) ∙ c .before .before .before .before .if1 .taken) (c .before .before .before .band-at .ensures) (c .before .before .if2 .left)
+    (c .before .if3 .values) (c .before .if3 .marks) (c .before .if3 .weight) (c .first-of .result) (c .first-of .ensures)
+    (w .2 .result) (w .2 .ensures) (w .0 .taken) (w .3) (w .4) (w .5))
     (λ w. again-many (a .s .now) (a .start) (l .values) (l .marks) (l .weight) (l .count) (l .fault) (l .at) (l .inv)
-      (c .before .before .before .band-at .result) (sym (c .before .before .before .before .before .byte .ensures) ∙ c .before .before .before .before .if1 .taken) (c .before .before .before .band-at .ensures) (c .before .before .if2 .left)
-      (c .before .if3 .values) (c .before .if3 .marks) (c .before .if3 .weight) (c .first-of .result) (c .first-of .ensures)
-      (w .0 .left) (w .1) (w .2) (w .3))
+    (c .before .before .before .band-at .result) (sym (c .before .before .before .before .before .byte .ensures) ∙ c .before .before .before .before .if1 .taken) (c .before .before .before .band-at .ensures) (c .before .before .if2 .left)
+    (c .before .if3 .values) (c .before .if3 .marks) (c .before .if3 .weight) (c .first-of .result) (c .first-of .ensures)
+    (w .0 .left) (w .1) (w .2) (w .3))
     (c .before .if3 .came)
 
 -- src/bands.rt:246:8

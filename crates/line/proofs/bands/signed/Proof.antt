@@ -65,7 +65,7 @@ returns-4 c =
     let w = c .before .before .before .before .before .figure .given in
     c .level-field2 .ensures
     ∙ signed-minus (a .limit) (a .minus) (a .figure) (w .0 .0) (w .0 .1 .0) (toZ w32 (ofZ w32 (c .before .less2 .result))) (w .1) (not-false (a .minus) (c .before .before .before .if1 .left))
-      (c .before .before .if2 .left) (back (c .before .less2 .result) (c .before .less2 .ok) ∙ c .before .less2 .ensures)
+    (c .before .before .if2 .left) (back (c .before .less2 .result) (c .before .less2 .ok) ∙ c .before .less2 .ensures)
 
 pub signed-spec : {M : Type 1} → statement M
 signed-spec =

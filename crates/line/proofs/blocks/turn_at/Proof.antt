@@ -45,8 +45,11 @@ enum-known-n c = search needs
 add-t18 : tie.Need-add-t18
 add-t18 c =
     let a = c .before .before .before .before .before .before .before .before .before .before .before .before .before .args in
-    omega (arith, turn-told (a .s .now) (a .at) (a .out .now) (a .wrote) (a .skipping) (a .last) (c .before .before .before .before .before .before .before .before .before .before .before .before .before .pre .1) (c .before .before .before .before .before .before .before .before .before .piece-at .result) (c .before .before .before .before .before .before .before .before .before .before .if1 .left) (c .before .before .before .before .before .before .before .before .before .piece-at .ensures) (c .before .before .before .before .before .before .before .if3 .taken) (c .before .before .before .before .before .answer-at .result) (c .before .before .before .before .before .answer-at .last .1 .1 .0)
-    (c .before .before .before .before .before .answer-at .ensures .0) (c .before .before .before .before .before .answer-at .ensures .1) (c .before .n .given .0 .0) (c .before .n .given .1) .0)
+    omega (
+      arith,
+      turn-told (a .s .now) (a .at) (a .out .now) (a .wrote) (a .skipping) (a .last) (c .before .before .before .before .before .before .before .before .before .before .before .before .before .pre .1) (c .before .before .before .before .before .before .before .before .before .piece-at .result) (c .before .before .before .before .before .before .before .before .before .before .if1 .left) (c .before .before .before .before .before .before .before .before .before .piece-at .ensures) (c .before .before .before .before .before .before .before .if3 .taken) (c .before .before .before .before .before .answer-at .result) (c .before .before .before .before .before .answer-at .last .1 .1 .0)
+          (c .before .before .before .before .before .answer-at .ensures .0) (c .before .before .before .before .before .answer-at .ensures .1) (c .before .n .given .0 .0) (c .before .n .given .1) .0,
+    )
 
 -- src/blocks.rt:113:13
 returns-3 : tie.Need-returns-3

@@ -110,9 +110,10 @@ returns c =
     let h = below-length z neg in
     let e = stored2 l 9 45 (omega (arith, c .before .before .before .before .before .before .before .pre)) in
     let m : c .before .before .before .before .magnitude .result ≡ N z = c .before .before .before .before .magnitude .ensures ∙ ap N b in
-    let d = c .before .before .put-decimal in
-    ( omega (arith, d .ensures .0, ap (λ k. length (decimal k)) m)
-    , number-front z l neg (tail-home (9 ∷ 45 ∷ []) l 2 e refl (omega (arith, c .before .before .before .before .before .before .before .pre)) (decimal (c .before .before .before .before .magnitude .result)) (d .ensures .1) ∙ ap (λ k. front (9 ∷ 45 ∷ decimal k) l) m) )
+    let d = c .before .before .put-decimal in (
+      omega (arith, d .ensures .0, ap (λ k. length (decimal k)) m),
+      number-front z l neg (tail-home (9 ∷ 45 ∷ []) l 2 e refl (omega (arith, c .before .before .before .before .before .before .before .pre)) (decimal (c .before .before .before .before .magnitude .result)) (d .ensures .1) ∙ ap (λ k. front (9 ∷ 45 ∷ decimal k) l) m),
+    )
 
 -- src/texts.rt:101:21
 above-requires : tie.Need-above-requires
@@ -191,9 +192,10 @@ returns-2 c =
     let h = above-length z nonneg in
     let e = stored1 l 9 (omega (arith, c .before .before .before .before .before .before .before .pre)) in
     let m : c .before .before .before .before .above .result ≡ P z = omega (arith, rw b at (c .before .before .before .before .above .ensures)) in
-    let d = c .before .before .put-decimal2 in
-    ( omega (arith, d .ensures .0, ap (λ k. length (decimal k)) m)
-    , count-front z l nonneg (tail-home (9 ∷ []) l 1 e refl (omega (arith, c .before .before .before .before .before .before .before .pre)) (decimal (c .before .before .before .before .above .result)) (d .ensures .1) ∙ ap (λ k. front (9 ∷ decimal k) l) m) )
+    let d = c .before .before .put-decimal2 in (
+      omega (arith, d .ensures .0, ap (λ k. length (decimal k)) m),
+      count-front z l nonneg (tail-home (9 ∷ []) l 1 e refl (omega (arith, c .before .before .before .before .before .before .before .pre)) (decimal (c .before .before .before .before .above .result)) (d .ensures .1) ∙ ap (λ k. front (9 ∷ decimal k) l) m),
+    )
 
 -- src/texts.rt:99:9
 same-length : tie.Need-same-length

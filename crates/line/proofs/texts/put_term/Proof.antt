@@ -49,18 +49,20 @@ returns c =
     let w = c .before .before .before .before .before .before .term .given in
     let a = c .before .before .before .before .before .before .before .before .before .args in
     let d = c .before .before .put-number in
-    let b = back (w .0 .0 .0) (c .before .before .before .struct-told .given .0 .1) in
-    ( d .ensures .0 ∙ ap (λ z. 1 + length (numberText z)) b ∙ ap (λ t. 1 + length (termText t)) (sym (w .1))
-    , d .ensures .1 ∙ ap (λ z. front (9 ∷ numberText z) (a .out .now)) b ∙ ap (λ t. front (9 ∷ termText t) (a .out .now)) (sym (w .1)) )
+    let b = back (w .0 .0 .0) (c .before .before .before .struct-told .given .0 .1) in (
+      d .ensures .0 ∙ ap (λ z. 1 + length (numberText z)) b ∙ ap (λ t. 1 + length (termText t)) (sym (w .1)),
+      d .ensures .1 ∙ ap (λ z. front (9 ∷ numberText z) (a .out .now)) b ∙ ap (λ t. front (9 ∷ termText t) (a .out .now)) (sym (w .1)),
+    )
 
 -- src/texts.rt:105:1
 returns-2 : tie.Need-returns-2
 unfolding termText
 returns-2 c =
     let e = c .enum-told .given .1 in
-    let a = c .before .before .before .args in
-    ( ap (λ t. 1 + length (termText t)) (sym e)
-    , stored2 (a .out .now) 9 45 (omega (arith, c .before .before .before .pre, ap (λ t. length (termText t)) e)) ∙ ap (λ t. front (9 ∷ termText t) (a .out .now)) (sym e) )
+    let a = c .before .before .before .args in (
+      ap (λ t. 1 + length (termText t)) (sym e),
+      stored2 (a .out .now) 9 45 (omega (arith, c .before .before .before .pre, ap (λ t. length (termText t)) e)) ∙ ap (λ t. front (9 ∷ termText t) (a .out .now)) (sym e),
+    )
 
 -- src/texts.rt:105:1
 same-length : tie.Need-same-length

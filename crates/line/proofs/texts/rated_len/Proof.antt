@@ -45,10 +45,11 @@ returns c = (c .sheet-len .ensures .0 ∙ ap (λ r. length (others (fieldsOf r))
 -- src/texts.rt:224:1
 returns-2 : tie.Need-returns-2
 returns-2 c =
-    let w = c .before .before .before .rated2 .given in
-    ( omega (arith, c .decimal-len .ensures .0 ∙ ap (λ n. length (decimal n)) (c .before .number .ensures), refused-length (numberOf (w .0 .0)))
-      ∙ ap (λ r. length (others (fieldsOf r))) (sym (w .1))
-    , omega (arith, c .decimal-len .ensures .1) )
+    let w = c .before .before .before .rated2 .given in (
+      omega (arith, c .decimal-len .ensures .0 ∙ ap (λ n. length (decimal n)) (c .before .number .ensures), refused-length (numberOf (w .0 .0)))
+          ∙ ap (λ r. length (others (fieldsOf r))) (sym (w .1)),
+      omega (arith, c .decimal-len .ensures .1),
+    )
 
 pub rated-len-spec : {M : Type 1} → statement M
 rated-len-spec =

@@ -50,9 +50,10 @@ returns : tie.Need-returns
 returns c =
     let sh = c .before .before .before .before .before .before .before .before .args .sheet in
     let r = c .before .before .before .before .number-len .ensures .0 ∙ ap (λ z. length (numberText z)) (back (sh .rating .0) (c .before .before .before .before .before .struct-told .given .0 .1)) in
-    let f = c .before .before .number-len2 .ensures .0 ∙ ap (λ z. length (numberText z)) (back (sh .first .0) (c .before .before .before .struct-told2 .given .0 .1)) in
-    ( omega (arith, r, f, c .before .term-len .ensures .0, c .decimal-len .ensures .0, sheet-length sh)
-    , omega (arith, c .decimal-len .ensures .1, c .before .term-len .ensures .1, c .before .before .number-len2 .ensures .1, c .before .before .before .before .number-len .ensures .1) )
+    let f = c .before .before .number-len2 .ensures .0 ∙ ap (λ z. length (numberText z)) (back (sh .first .0) (c .before .before .before .struct-told2 .given .0 .1)) in (
+      omega (arith, r, f, c .before .term-len .ensures .0, c .decimal-len .ensures .0, sheet-length sh),
+      omega (arith, c .decimal-len .ensures .1, c .before .term-len .ensures .1, c .before .before .number-len2 .ensures .1, c .before .before .before .before .number-len .ensures .1),
+    )
 
 pub sheet-len-spec : {M : Type 1} → statement M
 sheet-len-spec =

@@ -1,0 +1,20 @@
+-- Document 01, "Request and answer lines".
+
+-- the texts of requests and of answers
+pub use Rattle.line.specs.Texts.{Band, kindText, KeyOk, BandOk}
+unfoldable pub use Rattle.line.specs.Texts.{lineText, decimal, numberText, keyByte, levelText, bandText, requestText, ratedText, noRequestText}
+-- the request that a line is, and its answer
+pub use Rattle.line.specs.Reading.{Request}
+unfoldable pub use Rattle.line.specs.Reading.{requestOf}
+pub use Rattle.line.specs.Answers.{answerTo}
+unfoldable pub use Rattle.line.specs.Answers.{firstFault, judged, answerOf}
+-- a whole run: one answer for each line, in order
+unfoldable pub use Rattle.line.specs.Answers.{linesOf, answersTo, answersOf}
+-- "The library writes an answer line from an offset that the caller names; bytes before it and after the line keep their
+-- contents."
+pub use Rattle.line.specs.declared.lines.Wrote.{Wrote}
+unfoldable pub use Rattle.line.specs.Answers.{fitsAt, placed, wroteOf}
+-- a run in parts: what one block call answers, and what it carries on
+pub use Rattle.line.specs.declared.blocks.Progress.{Progress}
+pub use Rattle.line.specs.Blocks.{Step, Block, Answered}
+unfoldable pub use Rattle.line.specs.Blocks.{feedAfter, pieceAt, stepAt, blockFrom, blockOf}
