@@ -10,7 +10,7 @@ pub data Answer (A : Type 0) : Type 0 where
   refused : ℕ → Answer A
   numbers : List A → Answer A
 
--- a list at the front of an array; "Places of an answer array past the answer keep their contents"
+-- a list at the front of an array; places past the answer keep their contents
 abbrev pub front : {A : Type 0} → List A → List A → List A
 front t l = t ++ drop (length t) l
 

@@ -24,7 +24,7 @@ tenthsAt values i = record { 0 = getD values i (pos 0) }
 unfoldable pub setFrom : List ℤ → ℕ → BandSet
 setFrom values marks = record { values = listed (tenthsAt values) 16 0; marks = marks % 65536; len = length values }
 
--- a reading: 0 a level, 1 a limit value; "an unknown reading mark is a missing reading"
+-- a reading: 0 a level, 1 a limit value; an unknown mark is a missing reading
 abbrev pub readingFrom : ℕ → Float → Reading
 readingFrom zero x = Level x
 readingFrom (suc zero) x = Limit x

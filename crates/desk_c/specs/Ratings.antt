@@ -53,7 +53,7 @@ kindOf (suc (suc zero)) = Is I3
 kindOf (suc (suc (suc zero))) = Is I1
 kindOf (suc (suc (suc (suc n)))) = Unknown
 
--- "an unknown kind number owns no band count and is refused with 1"
+-- an unknown kind number owns no band count and is refused with 1
 abbrev pub byKind : Named → (Kind → Answer ℤ) → Answer ℤ
 byKind (Is kind) answer = answer kind
 byKind Unknown answer = refused 1

@@ -81,7 +81,7 @@ abbrev pub gradedAnswer : Graded → Answer ℤ
 gradedAnswer (graded.Given g) = numbers (gradeNumbers g)
 gradedAnswer (graded.Refused r) = refused (numberOf r)
 
--- "Side: 0 outside, anything else inside."
+-- side: 0 outside, anything else inside
 abbrev pub sideOf : ℕ → Side
 sideOf zero = Outside
 sideOf (suc n) = Inside
