@@ -2,8 +2,8 @@
 -- need r and not need (r + 1): no order of the table is used. Here for the sums of sixteen bands. Assumes nothing.
 use mathlib.Core.Path.{_≡_, refl, sym, subst}
 use mathlib.Core.Bool.{Bool}
-use mathlib.Core.List.{List}
-use Prim.Native.Nat.{ℕ, zero, suc, _+_, _*_, _-_, _^_, _≤_, _<_}
+use mathlib.Core.List.{List, _∷_}
+use Prim.Native.Nat.{ℕ, zero, suc, _+_, _*_, _-_, _/_, _^_, _≤_, _<_}
 use native.Mathlib.Nat.{pow-le-pow-left, le-trans, lt-of-le-of-lt, not-le-of-lt}
 use native.Mathlib.Decide.{decLt}
 use native.Mathlib.Omega.{arith}
@@ -12,17 +12,16 @@ use lib.ListN.{length, getD}
 use Rattle.laws.specs.Extremes.{Greatest, Least, Number}
 use Rattle.laws.proofs.Extremes.{Down, found, found-is, number-of}
 use Rattle.laws.proofs.Table.{both, both-left, both-right, every, at}
-use Rattle.energy.specs.Energies.{u, levelRule, AtLeast}
+use Rattle.energy.specs.Energies.{u, levelRule, AtLeast, Summed, Thresholds, Starts}
 use Rattle.energy.specs.Steps.{Reached}
 use Rattle.energy.proofs.Powers.{ten-up, pass-down}
-use Rattle.energy.proofs.Tables.{levels}
+use Rattle.energy.proofs.Tables.{levels, starts}
 
 abbrev pub threshold : (ℕ → ℕ) → (ℕ → ℕ) → ℕ → ℕ → Bool
 threshold need size i x = both (leb (need (suc i)) (size x)) (ltb (size (x - 1)) (need (suc i)))
 
 module _ (need size : ℕ → ℕ) (up : (a b : ℕ) → a ≤ b → size a ≤ size b)
-    (table : List ℕ) (checked : T (every (threshold need size) 0 table))
-    (s r : ℕ) (reach : Reached table s r) where
+    (table : List ℕ) (checked : T (every (threshold need size) 0 table)) where
   met : (i : ℕ) → i < length table → need (suc i) ≤ size (getD table i 0)
   met i h = leb→le (need (suc i)) (size (getD table i 0))
       (both-left (leb (need (suc i)) (size (getD table i 0))) (ltb (size (getD table i 0 - 1)) (need (suc i)))
@@ -33,22 +32,30 @@ module _ (need size : ℕ → ℕ) (up : (a b : ℕ) → a ≤ b → size a ≤ 
       (both-right (leb (need (suc i)) (size (getD table i 0))) (ltb (size (getD table i 0 - 1)) (need (suc i)))
       (at (threshold need size) table checked i h))
 
+  -- an entry is reached exactly where its need is met
+  pub enough : (s i : ℕ) → i < length table → getD table i 0 ≤ s → T (leb (need (suc i)) (size s))
+  enough s i h k = le→leb (need (suc i)) (size s) (le-trans (met i h) (up (getD table i 0) s k))
+
+  pub too-few : (s i : ℕ) → i < length table → s < getD table i 0 → T (leb (need (suc i)) (size s)) → ⊥
+  too-few s i h k t =
+      not-le-of-lt (missed i h) (le-trans (leb→le (need (suc i)) (size s) t) (up s (getD table i 0 - 1) (omega arith)))
+
+module _ (need size : ℕ → ℕ) (up : (a b : ℕ) → a ≤ b → size a ≤ size b)
+    (table : List ℕ) (checked : T (every (threshold need size) 0 table))
+    (s r : ℕ) (reach : Reached table s r) where
   pub meets : need 0 ≤ size s → T (leb (need r) (size s))
   meets base = go r refl
     where
       go : (k : ℕ) → r ≡ k → T (leb (need r) (size s))
       go zero e = subst (λ (n : ℕ). T (leb (need n) (size s))) (sym e) (le→leb (need 0) (size s) base)
       go (suc i) e = subst (λ (n : ℕ). T (leb (need n) (size s))) (sym e)
-          (le→leb (need (suc i)) (size s)
-          (le-trans (met i (omega (arith, reach .within))) (up (getD table i 0) s (reach .below i (sym e)))))
+          (enough need size up table checked s i (omega (arith, reach .within)) (reach .below i (sym e)))
 
   pub misses : size s < need (suc (length table)) → T (leb (need (suc r)) (size s)) → ⊥
   misses end t = go (decLt r (length table))
     where
       go : Dec (r < length table) → ⊥
-      go (yes h) = not-le-of-lt (missed r h)
-          (le-trans (leb→le (need (suc r)) (size s) t)
-          (up s (getD table r 0 - 1) (omega (arith, reach .above h))))
+      go (yes h) = too-few need size up table checked s r h (reach .above h) t
       go (no h) = let e : r ≡ length table = omega (arith, reach .within) in
           not-le-of-lt end (subst (λ (n : ℕ). need (suc n) ≤ size s) e (leb→le (need (suc r)) (size s) t))
 
@@ -80,17 +87,71 @@ checked-u = tt
 base-u : (S : ℕ) → 1000000000 ≤ S → need-u 0 ≤ size-u S
 base-u S h = le-trans (lit≤ {m = need-u 0} {n = 1000000000 ^ 200} tt) (up-u 1000000000 S h)
 
--- what the table's search gives is u
-pub level-is : (S r : ℕ) → 1000000000 ≤ S → S ≤ 16000000000 → Reached levels S r → r ≡ u S
-unfolding u levelRule levels
-level-is S r a b reach =
-    found-is 8 (levelRule S) (down-u S) (top-u S b) r
-    (meets need-u size-u up-u levels checked-u S r reach (base-u S a))
-    (misses need-u size-u up-u levels checked-u S r reach (lt-of-le-of-lt (most-u S b) (lit< {n = need-u 121} tt)))
-
 u-greatest : (S : ℕ) → 1000000000 ≤ S → S ≤ 16000000000 → Greatest (λ j. T (levelRule S j)) (u S)
 unfolding u levelRule
 u-greatest S a b = found 8 (levelRule S) (down-u S) (le→leb (need-u 0) (size-u S) (base-u S a)) (top-u S b)
+
+-- the table's entries against u
+pub levels-are : Thresholds levels
+unfolding levels levelRule
+levels-are = record {
+  whole = refl;
+  reached = λ S j h l k. u-greatest S (h .0) (h .1) .best (suc j) (enough need-u size-u up-u levels checked-u S j l k);
+  missed = λ S j h l k. at-most S j h (too-few need-u size-u up-u levels checked-u S j l k);
+  most = λ S h. at-most S 120 h (λ t. not-le-of-lt (lt-of-le-of-lt (most-u S (h .1)) (lit< {n = need-u 121} tt)) (leb→le (need-u 121) (size-u S) t));
+}
+  where
+    at-most : (S j : ℕ) → Summed S → (T (levelRule S (suc j)) → ⊥) → u S ≤ j
+    at-most S j h f = go (decLt j (u S))
+      where
+        go : Dec (j < u S) → u S ≤ j
+        go (yes k) = absurd (f (down-u S (suc j) (u S) k (u-greatest S (h .0) (h .1) .holds)))
+        go (no k) = omega arith
+
+-- ---- the starts: the last threshold up to a stretch, and the next but one, which lies behind it; above 118 there is none
+low : ℕ → ℕ → Bool
+low i k = both (leb k 120) (leb (getD (0 ∷ levels) k 0) (1000000000 + 16777216 * i))
+
+high : ℕ → ℕ → Bool
+high i k = leb (1000000000 + 16777216 * suc i) (getD levels (suc k) 0 + 1000000000000 * (k / 119))
+
+start-rule : ℕ → ℕ → Bool
+start-rule i k = both (low i k) (high i k)
+
+checked-starts : T (every start-rule 0 starts)
+unfolding start-rule low high starts levels
+checked-starts = tt
+
+low-reached : (S i k : ℕ) → Summed S → 1000000000 + 16777216 * i ≤ S → T (low i k) → k ≤ u S
+unfolding low
+low-reached S i zero h l t = omega arith
+low-reached S i (suc k) h l t =
+    levels-are .reached S k h (leb→le (suc k) 120 (both-left (leb (suc k) 120) (leb (getD levels k 0) (1000000000 + 16777216 * i)) t))
+    (le-trans (leb→le (getD levels k 0) (1000000000 + 16777216 * i) (both-right (leb (suc k) 120) (leb (getD levels k 0) (1000000000 + 16777216 * i)) t)) l)
+
+high-missed : (S i k : ℕ) → Summed S → S < 1000000000 + 16777216 * suc i → T (high i k) → u S ≤ suc k
+unfolding high
+high-missed S i k h l t = go (decLt (suc k) 120)
+  where
+    over : 1000000000 + 16777216 * suc i ≤ getD levels (suc k) 0 + 1000000000000 * (k / 119)
+    over = leb→le (1000000000 + 16777216 * suc i) (getD levels (suc k) 0 + 1000000000000 * (k / 119)) t
+
+    go : Dec (suc k < 120) → u S ≤ suc k
+    go (yes s) = levels-are .missed S (suc k) h s (omega (arith, over))
+    go (no s) = omega (arith, levels-are .most S h)
+
+pub starts-are : Starts starts
+unfolding start-rule starts
+starts-are = record { whole = refl; least = λ S h. least S ((S - 1000000000) / 16777216) h (omega (arith, h .0)) (omega (arith, h .1)); most = λ S h. most S ((S - 1000000000) / 16777216) h (omega (arith, h .0)) (omega (arith, h .1)) }
+  where
+    rule : (i : ℕ) → i < 895 → T (start-rule i (getD starts i 0))
+    rule i h = at start-rule starts checked-starts i h
+
+    least : (S i : ℕ) → Summed S → 1000000000 + 16777216 * i ≤ S → i < 895 → getD starts i 0 ≤ u S
+    least S i h l b = low-reached S i (getD starts i 0) h l (both-left (low i (getD starts i 0)) (high i (getD starts i 0)) (rule i b))
+
+    most : (S i : ℕ) → Summed S → S < 1000000000 + 16777216 * suc i → i < 895 → u S ≤ suc (getD starts i 0)
+    most S i h l b = high-missed S i (getD starts i 0) h l (both-right (low i (getD starts i 0)) (high i (getD starts i 0)) (rule i b))
 
 -- the meaning of u: by any H that is the least with its rule, u(S) is the number of j >= 1 with H(j) <= S, of all j
 pub u-number : (H : ℕ → ℕ) → ((j : ℕ) → Least (AtLeast j) (H j)) → (S : ℕ) → 1000000000 ≤ S → S ≤ 16000000000

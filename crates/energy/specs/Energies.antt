@@ -2,7 +2,7 @@
 use mathlib.Core.Bool.{Bool}
 use mathlib.Core.List.{List}
 use mathlib.Core.Path.{_≡_}
-use Prim.Native.Nat.{ℕ, suc, _+_, _*_, _^_, _≤_, _<_}
+use Prim.Native.Nat.{ℕ, suc, _+_, _*_, _-_, _/_, _^_, _≤_, _<_}
 use lib.Dec.{leb}
 use lib.ListN.{length, getD}
 use Rattle.laws.specs.Extremes.{greatest}
@@ -30,3 +30,26 @@ levelRule S j = leb (10 ^ (1799 + 2 * j)) (S ^ 200)
 
 unfoldable pub u : ℕ → ℕ
 u S = greatest 8 (levelRule S)
+
+-- the sum of the energies of one to sixteen bands, the least of them among them
+abbrev pub Summed : ℕ → Type 0
+Summed S = (1000000000 ≤ S) × (S ≤ 16000000000)
+
+-- a list of H(1) to H(120): an entry is reached exactly where u is above its place, and no such sum goes on
+pub record Thresholds (table : List ℕ) : Type 0 where
+  pub whole : length table ≡ 120
+  pub reached : (S j : ℕ) → Summed S → j < 120 → getD table j 0 ≤ S → j < u S
+  pub missed : (S j : ℕ) → Summed S → j < 120 → S < getD table j 0 → u S ≤ j
+  pub most : (S : ℕ) → Summed S → u S ≤ 120
+
+-- a list of u for each stretch of 2 ^ 24 from 10 ^ 9 on: within a stretch u grows by one at most
+pub record Starts (table : List ℕ) : Type 0 where
+  pub whole : length table ≡ 895
+  pub least : (S : ℕ) → Summed S → getD table ((S - 1000000000) / 16777216) 0 ≤ u S
+  pub most : (S : ℕ) → Summed S → u S ≤ suc (getD table ((S - 1000000000) / 16777216) 0)
+
+-- the tables of many sums, as they are lent
+pub record Tables (powers thresholds starts : List ℕ) : Type 0 where
+  pub scaled : Scaled powers
+  pub reached : Thresholds thresholds
+  pub started : Starts starts

@@ -4,6 +4,7 @@
 mod corrections;
 mod energies;
 mod means;
+mod starts;
 mod steps;
 
 pub use corrections::background;
@@ -11,4 +12,6 @@ pub use corrections::reverberation;
 pub use energies::energy;
 pub use energies::scaled_powers;
 pub use means::mean_of_three;
+pub use starts::level_starts;
 pub use steps::level;
+pub use steps::level_thresholds;

@@ -1,7 +1,7 @@
 // Numbers of steps by thresholds: how many entries of an ascending table a sum has reached.
 ghost use mathlib.Core.Path.{_≡_};
 ghost use Prim.Native.Nat.{_+_, _≤_, _<_};
-ghost use Rattle.energy.specs.Energies.{u};
+ghost use Rattle.energy.specs.Energies.{u, Summed, Thresholds, Starts};
 ghost use Rattle.energy.specs.Steps.{Reached};
 
 // H(1) to H(120): the least sums that count one tenth more.
@@ -145,10 +145,27 @@ pub fn reached(table: &[u64], s: u64) -> usize
     low
 }
 
-// u(S): the tenths that a sum of energies stands above one band alone.
-pub fn level(s: u64) -> u32
-    requires { ⌜ (1000000000 ≤ s) × (s ≤ 16000000000) ⌝ }
+// The thresholds, to be named once for many sums: where an array is named, it is laid out.
+pub fn level_thresholds() -> [u64; 120]
+    ensures { λ r. ⌜ Thresholds r ⌝ }
+{
+    LEVELS
+}
+
+// u(S): the tenths that a sum of energies stands above one band alone. One threshold is left to compare with.
+pub fn level(thresholds: &[u64; 120], starts: &[u8; 895], s: u64) -> u32
+    requires { ⌜ Summed s ⌝ }
+    requires { ⌜ Thresholds (now thresholds) ⌝ }
+    requires { ⌜ Starts (now starts) ⌝ }
     ensures { λ r. ⌜ r ≡ u s ⌝ }
 {
-    reached(&LEVELS, s) as u32
+    let stretch = (s - 1000000000) / 16777216;
+    let below = starts[stretch as usize];
+    if 119 < below {
+        return 120;
+    }
+    if thresholds[below as usize] <= s {
+        return below as u32 + 1;
+    }
+    below as u32
 }

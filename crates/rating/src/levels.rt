@@ -1,5 +1,4 @@
 // The shared rating over levels: sums, the search for the accepted position, and the sum of energies.
-use energy::scaled_powers;
 use quantity::BandSet;
 use quantity::Tenths;
 use quantity::signed::above;
@@ -69,10 +68,10 @@ pub fn levels(set: BandSet, bands: usize, airborne: bool, entries: [u32; 16]) ->
 }
 
 // The sum of the levels.
-pub fn sum(levels: [u32; 16], bands: usize) -> u32
+pub fn sum(levels: &[u32; 16], bands: usize) -> u32
     requires { ⌜ bands ≤ 16 ⌝ }
-    requires { ⌜ ((i : ℕ) → i < bands → at levels i < 10000) ⌝ }
-    ensures { λ r. ⌜ r ≡ sumTo (at levels) bands ⌝ }
+    requires { ⌜ ((i : ℕ) → i < bands → at (now levels) i < 10000) ⌝ }
+    ensures { λ r. ⌜ r ≡ sumTo (at (now (levels .entry))) bands ⌝ }
 {
     let mut sum = 0;
     let mut i = 0;
@@ -84,10 +83,10 @@ pub fn sum(levels: [u32; 16], bands: usize) -> u32
 }
 
 // The total of the deficits at position p.
-pub fn total(levels: [u32; 16], bands: usize, p: u32) -> u32
+pub fn total(levels: &[u32; 16], bands: usize, p: u32) -> u32
     requires { ⌜ bands ≤ 16 ⌝ }
     requires { ⌜ p < 500 ⌝ }
-    ensures { λ r. ⌜ r ≡ totalAt (at levels) bands p ⌝ }
+    ensures { λ r. ⌜ r ≡ totalAt (at (now (levels .entry))) bands p ⌝ }
 {
     let height = 10 * p;
     let mut total = 0;
@@ -102,10 +101,10 @@ pub fn total(levels: [u32; 16], bands: usize, p: u32) -> u32
 }
 
 // From the start, position by position, to the first whose total is within the limit. At position 0 the total is 0.
-pub fn settle(levels: [u32; 16], bands: usize, limit: u32, start: u32) -> Position
+pub fn settle(levels: &[u32; 16], bands: usize, limit: u32, start: u32) -> Position
     requires { ⌜ bands ≤ 16 ⌝ }
     requires { ⌜ start < 500 ⌝ }
-    ensures { λ r. ⌜ Settled (at levels) bands limit start (r .at) (r .shifts) ⌝ }
+    ensures { λ r. ⌜ Settled (at (now (levels .entry))) bands limit start (r .at) (r .shifts) ⌝ }
 {
     let mut p = start;
     let mut shifts = 0;
@@ -117,9 +116,9 @@ pub fn settle(levels: [u32; 16], bands: usize, limit: u32, start: u32) -> Positi
 }
 
 // The least level.
-pub fn least(levels: [u32; 16], bands: usize) -> u32
+pub fn least(levels: &[u32; 16], bands: usize) -> u32
     requires { ⌜ (1 ≤ bands) × (bands ≤ 16) ⌝ }
-    ensures { λ r. ⌜ r ≡ leastOf (at levels) bands ⌝ }
+    ensures { λ r. ⌜ r ≡ leastOf (at (now (levels .entry))) bands ⌝ }
 {
     let mut least = levels[0];
     let mut i = 1;
@@ -144,16 +143,16 @@ fn power_at(powers: &[u32; 901], d: u32) -> u32
 }
 
 // The sum of the energies of the levels, m the least of them.
-pub fn energies(levels: [u32; 16], bands: usize, m: u32) -> u64
+pub fn energies(levels: &[u32; 16], bands: usize, m: u32, powers: &[u32; 901]) -> u64
+    requires { ⌜ Scaled (now powers) ⌝ }
     requires { ⌜ bands ≤ 16 ⌝ }
-    requires { ⌜ ((i : ℕ) → i < bands → m ≤ at levels i) ⌝ }
-    ensures { λ r. ⌜ r ≡ energiesOf (at levels) bands m ⌝ }
+    requires { ⌜ ((i : ℕ) → i < bands → m ≤ at (now levels) i) ⌝ }
+    ensures { λ r. ⌜ r ≡ energiesOf (at (now (levels .entry))) bands m ⌝ }
 {
-    let powers = scaled_powers();
     let mut sum = 0u64;
     let mut i = 0;
     while i < bands {
-        sum += power_at(&powers, levels[i] - m) as u64;
+        sum += power_at(powers, levels[i] - m) as u64;
         i += 1;
     }
     sum

@@ -14,3 +14,4 @@ pub use sheets::Rated;
 pub use sheets::Sheet;
 pub use sheets::Term;
 pub use sheets::rate;
+pub use sheets::sheet_of;

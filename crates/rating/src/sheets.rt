@@ -10,6 +10,9 @@ use crate::levels::levels;
 use crate::levels::settle;
 use crate::levels::sum;
 use energy::level;
+use energy::level_starts;
+use energy::level_thresholds;
+use energy::scaled_powers;
 use quantity::BandSet;
 use quantity::Decibels;
 use quantity::Refusal;
@@ -18,6 +21,7 @@ use quantity::signed::less;
 ghost use mathlib.Core.Path.{_≡_};
 ghost use mathlib.Core.Bool.{true};
 ghost use Prim.Native.Nat.{ℕ, _+_, _*_, _/_, _≤_, _<_};
+ghost use Rattle.energy.specs.Energies.{Tables};
 ghost use Rattle.quantity.specs.Quantities.{halfUp};
 ghost use Rattle.rating.specs.Bands.{accepted, anyTo, bit};
 ghost use Rattle.rating.specs.Kinds.{bandsOf};
@@ -74,20 +78,30 @@ fn sought(set: BandSet, n: Numbers) -> Position
     let bands = n.bands;
     let entries = n.entries;
     let levels = levels(set, bands, n.airborne, entries);
-    let start = start_of(sum(levels, bands), n.start, bands);
-    settle(levels, bands, n.limit, start)
+    let start = start_of(sum(&levels, bands), n.start, bands);
+    settle(&levels, bands, n.limit, start)
 }
 
 // The energies of a set, by the entries of one spectrum.
-fn weigh(set: BandSet, bands: usize, airborne: bool, entries: [u32; 16]) -> Weighed
+fn weigh(
+    set: BandSet,
+    bands: usize,
+    airborne: bool,
+    entries: [u32; 16],
+    powers: &[u32; 901],
+    thresholds: &[u64; 120],
+    starts: &[u8; 895],
+) -> Weighed
+    requires { ⌜ Tables (now powers) (now thresholds) (now starts) ⌝ }
     requires { ⌜ Count bands ⌝ }
     requires { ⌜ accepted set bands ≡ true ⌝ }
     requires { ⌜ ((i : ℕ) → i < 16 → Entries airborne (at entries i)) ⌝ }
     ensures { λ r. ⌜ WeighedOf (levelAt airborne set entries) bands (r .least) (r .step) ⌝ }
 {
     let levels = levels(set, bands, airborne, entries);
-    let least = least(levels, bands);
-    let step = level(energies(levels, bands, least));
+    let least = least(&levels, bands);
+    let sum = energies(&levels, bands, least, powers);
+    let step = level(thresholds, starts, sum);
     Weighed { least, step }
 }
 
@@ -128,20 +142,44 @@ fn marked(marks: u16, bands: usize) -> bool
 }
 
 // A term at position p, by the entries of its spectrum, rounded to a whole decibel.
-fn term_of(set: BandSet, n: Numbers, entries: [u32; 16], p: u32) -> Decibels
+fn term_of(
+    set: BandSet,
+    n: Numbers,
+    entries: [u32; 16],
+    p: u32,
+    powers: &[u32; 901],
+    thresholds: &[u64; 120],
+    starts: &[u8; 895],
+) -> Decibels
+    requires { ⌜ Tables (now powers) (now thresholds) (now starts) ⌝ }
     requires { ⌜ Sound n ⌝ }
     requires { ⌜ accepted set (n .bands) ≡ true ⌝ }
     requires { ⌜ ((i : ℕ) → i < 16 → Entries (n .airborne) (at entries i)) ⌝ }
     requires { ⌜ p < 500 ⌝ }
     ensures { λ r. ⌜ r .0 ≡ halfUp (termOf (n .airborne) (n .origin) (levelAt (n .airborne) set entries) (n .bands) p) ⌝ }
 {
-    let w = weigh(set, n.bands, n.airborne, entries);
+    let w = weigh(
+        set,
+        n.bands,
+        n.airborne,
+        entries,
+        powers,
+        thresholds,
+        starts,
+    );
     let tenths = term_at(w, p, n.airborne, n.origin);
     tenths.rounded()
 }
 
-// The sheet of an accepted set.
-fn sheet_of(kind: Kind, set: BandSet) -> Sheet
+// The sheet of an accepted set, with the tables lent: whoever rates many sets lays them out once.
+pub fn sheet_of(
+    kind: Kind,
+    set: BandSet,
+    powers: &[u32; 901],
+    thresholds: &[u64; 120],
+    starts: &[u8; 895],
+) -> Sheet
+    requires { ⌜ Tables (now powers) (now thresholds) (now starts) ⌝ }
     requires { ⌜ accepted set (bandsOf kind) ≡ true ⌝ }
     ensures { λ r. ⌜ r ≡ sheetOf kind set ⌝ }
 {
@@ -151,11 +189,11 @@ fn sheet_of(kind: Kind, set: BandSet) -> Sheet
     let shifts = position.shifts;
     let rating = rating_at(p, n.airborne, n.origin);
     let spectrum = n.first;
-    let first = term_of(set, n, spectrum, p);
+    let first = term_of(set, n, spectrum, p, powers, thresholds, starts);
     let limit = marked(set.marks, n.bands);
     if n.airborne {
         let other = n.second;
-        let second = Term::Given(term_of(set, n, other, p));
+        let second = Term::Given(term_of(set, n, other, p, powers, thresholds, starts));
         Sheet {
             rating,
             first,
@@ -186,5 +224,8 @@ pub fn rate(kind: Kind, set: BandSet) -> Rated
     if !all_in_range(set, bands) {
         return Rated::Refused(Refusal::BandRange);
     }
-    Rated::Rating(sheet_of(kind, set))
+    let powers = scaled_powers();
+    let thresholds = level_thresholds();
+    let starts = level_starts();
+    Rated::Rating(sheet_of(kind, set, &powers, &thresholds, &starts))
 }

@@ -1,24 +1,64 @@
--- `energy::steps::level` meets its contract: the table of H is one of thresholds. Assumes nothing.
+-- `energy::steps::level` meets its contract: u lies between the start of its stretch and one more. Assumes nothing.
 use borrow.Author.Needs.{needs}
-use Rattle.energy.proofs.Tables.{levels}
-use Rattle.energy.proofs.Thresholds.{level-is}
+use Prim.Native.Nat.{ℕ, _-_, _/_}
+use native.Mathlib.Omega.{arith}
+use lib.ListN.{getD}
 use Rattle.energy.proofs.steps.level.Statement.{statement}
 use Rattle.energy.proofs.steps.level.Tie as tie
 
-slice-aggregate-reached : tie.Need-slice-aggregate-reached
-slice-aggregate-reached c = search needs
+sub-stretch : tie.Need-sub-stretch
+sub-stretch c = search needs
 
-reached-requires : tie.Need-reached-requires
-reached-requires c κs = search needs
+element-copy-out-below : tie.Need-element-copy-out-below
+element-copy-out-below c = search needs
+
+returns : tie.Need-returns
+returns c =
+    let b = c .before .before in
+    omega (arith, b .pre .1 .1 .least (b .args .s) (b .pre .0), b .pre .1 .0 .most (b .args .s) (b .pre .0))
+
+cast-if2 : tie.Need-cast-if2
+cast-if2 c = search needs
+
+mul-if2 : tie.Need-mul-if2
+mul-if2 c = search needs
+
+element-copy-out-if2 : tie.Need-element-copy-out-if2
+element-copy-out-if2 c = search needs
 
 cast-result : tie.Need-cast-result
 cast-result c = search needs
 
-returns : tie.Need-returns
-unfolding levels
-returns c =
-    let b = c .before .before in
-    level-is (b .args .s) (c .reached .result) (b .pre .0) (b .pre .1) (c .reached .ensures)
+add-result : tie.Need-add-result
+add-result c = search needs
+
+returns-2 : tie.Need-returns-2
+returns-2 c =
+    let b = c .before .before .before .before in
+    let k : ℕ = getD (b .args .starts .now) ((b .args .s - 1000000000) / 16777216) 0 in
+    omega (arith, b .pre .1 .1 .most (b .args .s) (b .pre .0), b .pre .1 .0 .reached (b .args .s) k (b .pre .0) (omega arith) (c .if2 .taken))
+
+cast-result-2 : tie.Need-cast-result-2
+cast-result-2 c = search needs
+
+returns-3 : tie.Need-returns-3
+returns-3 c =
+    let b = c .before .before .before .before in
+    let k : ℕ = getD (b .args .starts .now) ((b .args .s - 1000000000) / 16777216) 0 in
+    omega (arith, b .pre .1 .1 .least (b .args .s) (b .pre .0), b .pre .1 .0 .missed (b .args .s) k (b .pre .0) (omega arith) (c .if2 .left))
 
 pub level-spec : {M : Type 1} → statement M
-level-spec = tie.close (tie.spec slice-aggregate-reached reached-requires cast-result returns)
+level-spec =
+    tie.close
+    (tie.spec
+    sub-stretch
+    element-copy-out-below
+    returns
+    cast-if2
+    mul-if2
+    element-copy-out-if2
+    cast-result
+    add-result
+    returns-2
+    cast-result-2
+    returns-3)

@@ -12,29 +12,26 @@ use Rattle.rating.proofs.levels.energies.Statement.{statement}
 use Rattle.rating.proofs.levels.energies.Tie as tie
 
 abbrev Inv-loop : tie.InvT-loop
-Inv-loop bands m levels powers sum₀ i₀ sum i =
+Inv-loop levels bands m powers sum₀ i₀ sum i =
     (i ≤ bands) × (sum ≡ energiesOf (at levels) i m)
 
 abbrev μ-loop : tie.MeasureT-loop
-μ-loop bands m levels powers sum₀ i₀ sum i = bands - i
-
-scaled-powers-requires : tie.Need-scaled-powers-requires Inv-loop μ-loop
-scaled-powers-requires c κs = search needs
+μ-loop levels bands m powers sum₀ i₀ sum i = bands - i
 
 loop-holds : tie.Need-loop-holds Inv-loop μ-loop
-loop-holds c = (omega arith, energies-none (at (c .before .args .t1)) (c .before .args .m))
+loop-holds c = (omega arith, energies-none (at (c .args .levels .now)) (c .args .m))
 
 mul-power-at : tie.Need-mul-power-at Inv-loop μ-loop
 mul-power-at c = omega arith
 
-array-read-power-at : tie.Need-array-read-power-at Inv-loop μ-loop
-array-read-power-at c = omega arith
+element-copy-out-power-at : tie.Need-element-copy-out-power-at Inv-loop μ-loop
+element-copy-out-power-at c = omega arith
 
 sub-power-at : tie.Need-sub-power-at Inv-loop μ-loop
-sub-power-at c = c .before .before .before .before .pre .1 (c .before .before .loop .i) (omega arith)
+sub-power-at c = c .before .before .before .pre .1 .1 (c .before .before .loop .i) (omega arith)
 
 power-at-requires : tie.Need-power-at-requires Inv-loop μ-loop
-power-at-requires c κs = c .before .before .before .scaled-powers .ensures
+power-at-requires c κs = c .before .before .before .pre .0
 
 cast-sum : tie.Need-cast-sum Inv-loop μ-loop
 cast-sum c = search needs
@@ -42,8 +39,8 @@ cast-sum c = search needs
 add-sum : tie.Need-add-sum Inv-loop μ-loop
 add-sum c =
     let b = c .before .before .before in
-    let a = b .before .before .args in
-    omega (arith, energies-most (at (a .t1)) (b .loop .i) (a .m), c .power-at .ok)
+    let a = b .before .args in
+    omega (arith, energies-most (at (a .levels .now)) (b .loop .i) (a .m), c .power-at .ok)
 
 add-i : tie.Need-add-i Inv-loop μ-loop
 add-i c = omega arith
@@ -54,15 +51,15 @@ loop-less c = omega arith
 loop-again : tie.Need-loop-again Inv-loop μ-loop
 loop-again c =
     let b = c .before .before .before in
-    let a = b .before .before .args in
-    (omega arith, energies-more (at (a .t1)) (b .loop .i) (a .m) (b .loop .sum) (c .power-at .result) (b .loop .inv .1) (c .power-at .ensures))
+    let a = b .before .args in
+    (omega arith, energies-more (at (a .levels .now)) (b .loop .i) (a .m) (b .loop .sum) (c .power-at .result) (b .loop .inv .1) (c .power-at .ensures))
 
 returns : tie.Need-returns Inv-loop μ-loop
 returns c =
     let b = c .before in
-    let a = b .before .before .args in
+    let a = b .before .args in
     let e : b .loop .i ≡ a .bands = omega arith in
-    b .loop .inv .1 ∙ ap (λ (n : ℕ). energiesOf (at (a .t1)) n (a .m)) e
+    b .loop .inv .1 ∙ ap (λ (n : ℕ). energiesOf (at (a .levels .now)) n (a .m)) e
 
 pub energies-spec : {M : Type 1} → statement M
 energies-spec =
@@ -70,10 +67,9 @@ energies-spec =
     (tie.spec
     Inv-loop
     μ-loop
-    scaled-powers-requires
     loop-holds
     mul-power-at
-    array-read-power-at
+    element-copy-out-power-at
     sub-power-at
     power-at-requires
     cast-sum

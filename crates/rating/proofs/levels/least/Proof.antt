@@ -12,28 +12,28 @@ use Rattle.rating.proofs.levels.least.Statement.{statement}
 use Rattle.rating.proofs.levels.least.Tie as tie
 
 abbrev Inv-loop : tie.InvT-loop
-Inv-loop bands levels least₀ i₀ least i = (1 ≤ i) × (i ≤ bands) × (least ≡ minTo (at levels) (i - 1))
+Inv-loop levels bands least₀ i₀ least i = (1 ≤ i) × (i ≤ bands) × (least ≡ minTo (at levels) (i - 1))
 
 abbrev μ-loop : tie.MeasureT-loop
-μ-loop bands levels least₀ i₀ least i = bands - i
+μ-loop levels bands least₀ i₀ least i = bands - i
 
-array-read-least : tie.Need-array-read-least Inv-loop μ-loop
-array-read-least c = omega arith
+element-copy-out-least : tie.Need-element-copy-out-least Inv-loop μ-loop
+element-copy-out-least c = omega arith
 
 loop-holds : tie.Need-loop-holds Inv-loop μ-loop
-loop-holds c = (omega arith, omega arith, least-first (at (c .args .t1)))
+loop-holds c = (omega arith, omega arith, least-first (at (c .before .args .levels .now)))
 
 mul-if1 : tie.Need-mul-if1 Inv-loop μ-loop
 mul-if1 c = omega arith
 
-array-read-if1 : tie.Need-array-read-if1 Inv-loop μ-loop
-array-read-if1 c = omega arith
+element-copy-out-if1 : tie.Need-element-copy-out-if1 Inv-loop μ-loop
+element-copy-out-if1 c = omega arith
 
 mul-least : tie.Need-mul-least Inv-loop μ-loop
 mul-least c = omega arith
 
-array-read-least-2 : tie.Need-array-read-least-2 Inv-loop μ-loop
-array-read-least-2 c = omega arith
+element-copy-out-least-2 : tie.Need-element-copy-out-least-2 Inv-loop μ-loop
+element-copy-out-least-2 c = omega arith
 
 add-i : tie.Need-add-i Inv-loop μ-loop
 add-i c = omega arith
@@ -43,12 +43,12 @@ loop-less c = omega arith
 
 loop-again : tie.Need-loop-again Inv-loop μ-loop
 loop-again c =
-    let b = c .before .before in
-    let f : ℕ → ℕ = at (b .before .args .t1) in (
+    let b = c .before .before .before in
+    let f : ℕ → ℕ = at (b .before .before .args .levels .now) in (
       omega arith,
       omega arith,
       ⊎-elim
-          (λ w. w .1 ∙ least-new f (b .loop .i) (b .loop .least) (b .loop .inv .0) (b .loop .inv .2) (w .0 .taken))
+          (λ w. w .2 ∙ least-new f (b .loop .i) (b .loop .least) (b .loop .inv .0) (b .loop .inv .2) (w .0 .taken))
           (λ w. w .1 ∙ least-kept f (b .loop .i) (b .loop .least) (b .loop .inv .0) (b .loop .inv .2) (w .0 .left))
           (c .if1 .came),
     )
@@ -57,8 +57,8 @@ returns : tie.Need-returns Inv-loop μ-loop
 unfolding leastOf
 returns c =
     let b = c .before in
-    let e : b .loop .i ≡ b .before .args .bands = omega arith in
-    b .loop .inv .2 ∙ ap (λ (n : ℕ). minTo (at (b .before .args .t1)) (n - 1)) e
+    let e : b .loop .i ≡ b .before .before .args .bands = omega arith in
+    b .loop .inv .2 ∙ ap (λ (n : ℕ). minTo (at (b .before .before .args .levels .now)) (n - 1)) e
 
 pub least-spec : {M : Type 1} → statement M
 least-spec =
@@ -66,12 +66,12 @@ least-spec =
     (tie.spec
     Inv-loop
     μ-loop
-    array-read-least
+    element-copy-out-least
     loop-holds
     mul-if1
-    array-read-if1
+    element-copy-out-if1
     mul-least
-    array-read-least-2
+    element-copy-out-least-2
     add-i
     loop-less
     loop-again

@@ -28,7 +28,7 @@ total-requires c κs = (omega arith, omega arith)
 sub-p : tie.Need-sub-p Inv-loop μ-loop
 sub-p c =
     let b = c .before .before in
-    above-zero (at (b .before .args .levels)) (b .before .args .bands) (b .before .args .limit) (b .loop .p) (c .before .total .result) (c .before .total .ensures) (c .if1 .taken)
+    above-zero (at (b .before .args .levels .now)) (b .before .args .bands) (b .before .args .limit) (b .loop .p) (c .before .total .result) (c .before .total .ensures) (c .if1 .taken)
 
 add-shifts : tie.Need-add-shifts Inv-loop μ-loop
 add-shifts c = omega arith
@@ -44,7 +44,7 @@ loop-again c =
     let a = b .before .args in
     let h : 1 ≤ b .loop .p = sub-p c in (
       omega arith,
-      next-over (at (a .levels)) (a .bands) (a .limit) (a .start) (b .loop .p) (b .loop .shifts) (c .before .total .result) (b .loop .inv .0) (c .before .total .ensures) (c .if1 .taken) (b .loop .inv .1),
+      next-over (at (a .levels .now)) (a .bands) (a .limit) (a .start) (b .loop .p) (b .loop .shifts) (c .before .total .result) (b .loop .inv .0) (c .before .total .ensures) (c .if1 .taken) (b .loop .inv .1),
     )
 
 returns : tie.Need-returns Inv-loop μ-loop

@@ -14,24 +14,24 @@ use Rattle.rating.proofs.levels.sum.Statement.{statement}
 use Rattle.rating.proofs.levels.sum.Tie as tie
 
 abbrev Inv-loop : tie.InvT-loop
-Inv-loop bands levels sum₀ i₀ sum i = (i ≤ bands) × (sum ≡ sumTo (at levels) i)
+Inv-loop levels bands sum₀ i₀ sum i = (i ≤ bands) × (sum ≡ sumTo (at levels) i)
 
 abbrev μ-loop : tie.MeasureT-loop
-μ-loop bands levels sum₀ i₀ sum i = bands - i
+μ-loop levels bands sum₀ i₀ sum i = bands - i
 
 loop-holds : tie.Need-loop-holds Inv-loop μ-loop
-loop-holds c = (omega arith, sym (sum-none (at (c .args .t1))))
+loop-holds c = (omega arith, sym (sum-none (at (c .args .levels .now))))
 
 mul-sum : tie.Need-mul-sum Inv-loop μ-loop
 mul-sum c = omega arith
 
-array-read-sum : tie.Need-array-read-sum Inv-loop μ-loop
-array-read-sum c = omega arith
+element-copy-out-sum : tie.Need-element-copy-out-sum Inv-loop μ-loop
+element-copy-out-sum c = omega arith
 
 add-sum : tie.Need-add-sum Inv-loop μ-loop
 add-sum c =
-    let b = c .before in
-    omega (arith, level-sum-most (at (b .before .args .t1)) (b .loop .i) (λ j q. b .before .pre .1 j (omega arith)), b .before .pre .1 (b .loop .i) (omega arith))
+    let b = c .before .before in
+    omega (arith, level-sum-most (at (b .before .args .levels .now)) (b .loop .i) (λ j q. b .before .pre .1 j (omega arith)), b .before .pre .1 (b .loop .i) (omega arith))
 
 add-i : tie.Need-add-i Inv-loop μ-loop
 add-i c = omega arith
@@ -41,15 +41,15 @@ loop-less c = omega arith
 
 loop-again : tie.Need-loop-again Inv-loop μ-loop
 loop-again c =
-    let b = c .before in
-    let levels = b .before .args .t1 in
+    let b = c .before .before in
+    let levels = b .before .args .levels .now in
     (omega arith, ap (λ (n : ℕ). n + at levels (b .loop .i)) (b .loop .inv .1) ∙ sym (sum-more (at levels) (b .loop .i)))
 
 returns : tie.Need-returns Inv-loop μ-loop
 returns c =
     let b = c .before in
     let e : b .loop .i ≡ b .before .args .bands = omega arith in
-    b .loop .inv .1 ∙ ap (sumTo (at (b .before .args .t1))) e
+    b .loop .inv .1 ∙ ap (sumTo (at (b .before .args .levels .now))) e
 
 pub sum-spec : {M : Type 1} → statement M
 sum-spec =
@@ -59,7 +59,7 @@ sum-spec =
     μ-loop
     loop-holds
     mul-sum
-    array-read-sum
+    element-copy-out-sum
     add-sum
     add-i
     loop-less

@@ -12,36 +12,36 @@ use Rattle.rating.proofs.levels.total.Statement.{statement}
 use Rattle.rating.proofs.levels.total.Tie as tie
 
 abbrev Inv-loop : tie.InvT-loop
-Inv-loop bands p levels height total₀ i₀ total i = (i ≤ bands) × (total ≡ totalAt (at levels) i p)
+Inv-loop levels bands p height total₀ i₀ total i = (i ≤ bands) × (total ≡ totalAt (at levels) i p)
 
 abbrev μ-loop : tie.MeasureT-loop
-μ-loop bands p levels height total₀ i₀ total i = bands - i
+μ-loop levels bands p height total₀ i₀ total i = bands - i
 
 mul-height : tie.Need-mul-height Inv-loop μ-loop
 mul-height c = omega arith
 
 loop-holds : tie.Need-loop-holds Inv-loop μ-loop
-loop-holds c = (omega arith, total-none (at (c .args .t1)) (c .args .p))
+loop-holds c = (omega arith, total-none (at (c .args .levels .now)) (c .args .p))
 
 mul-if1 : tie.Need-mul-if1 Inv-loop μ-loop
 mul-if1 c = omega arith
 
-array-read-if1 : tie.Need-array-read-if1 Inv-loop μ-loop
-array-read-if1 c = omega arith
+element-copy-out-if1 : tie.Need-element-copy-out-if1 Inv-loop μ-loop
+element-copy-out-if1 c = omega arith
 
 mul-total : tie.Need-mul-total Inv-loop μ-loop
 mul-total c = omega arith
 
-array-read-total : tie.Need-array-read-total Inv-loop μ-loop
-array-read-total c = omega arith
+element-copy-out-total : tie.Need-element-copy-out-total Inv-loop μ-loop
+element-copy-out-total c = omega arith
 
 sub-total : tie.Need-sub-total Inv-loop μ-loop
 sub-total c = omega arith
 
 add-total : tie.Need-add-total Inv-loop μ-loop
 add-total c =
-    let b = c .before .before in
-    omega (arith, total-most (at (b .before .args .t1)) (b .loop .i) (b .before .args .p) (omega arith))
+    let b = c .before .before .before .before in
+    omega (arith, total-most (at (b .before .args .levels .now)) (b .loop .i) (b .before .args .p) (omega arith))
 
 add-i : tie.Need-add-i Inv-loop μ-loop
 add-i c = omega arith
@@ -51,12 +51,12 @@ loop-less c = omega arith
 
 loop-again : tie.Need-loop-again Inv-loop μ-loop
 loop-again c =
-    let b = c .before .before in
-    let levels = b .before .args .t1 in
+    let b = c .before .before .before in
+    let levels = b .before .args .levels .now in
     let p : ℕ = b .before .args .p in (
       omega arith,
       ⊎-elim
-          (λ w. w .1 ∙ total-more (at levels) (b .loop .i) p (b .loop .total) (10 * p - at levels (b .loop .i)) (b .loop .inv .1) refl)
+          (λ w. w .2 ∙ total-more (at levels) (b .loop .i) p (b .loop .total) (10 * p - at levels (b .loop .i)) (b .loop .inv .1) refl)
           (λ w. w .1 ∙ total-same (at levels) (b .loop .i) p (b .loop .total) (b .loop .inv .1) (w .0 .left))
           (c .if1 .came),
     )
@@ -65,7 +65,7 @@ returns : tie.Need-returns Inv-loop μ-loop
 returns c =
     let b = c .before in
     let e : b .loop .i ≡ b .before .args .bands = omega arith in
-    b .loop .inv .1 ∙ ap (λ (n : ℕ). totalAt (at (b .before .args .t1)) n (b .before .args .p)) e
+    b .loop .inv .1 ∙ ap (λ (n : ℕ). totalAt (at (b .before .args .levels .now)) n (b .before .args .p)) e
 
 pub total-spec : {M : Type 1} → statement M
 total-spec =
@@ -76,9 +76,9 @@ total-spec =
     mul-height
     loop-holds
     mul-if1
-    array-read-if1
+    element-copy-out-if1
     mul-total
-    array-read-total
+    element-copy-out-total
     sub-total
     add-total
     add-i

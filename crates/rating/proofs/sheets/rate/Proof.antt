@@ -43,19 +43,33 @@ returns-2 c =
     out-of-range k (b .before .args .set) (b .numbers-of .result .bands) (bands-are k (b .numbers-of .result) (b .numbers-of .ensures))
     (c .before .before .if1 .left) (sym (c .before .all-in-range .ensures) ∙ not-true (c .before .all-in-range .result) (c .if2 .taken))
 
+scaled-powers-requires : tie.Need-scaled-powers-requires
+scaled-powers-requires c κs = search needs
+
+level-thresholds-requires : tie.Need-level-thresholds-requires
+level-thresholds-requires c κs = search needs
+
+level-starts-requires : tie.Need-level-starts-requires
+level-starts-requires c κs = search needs
+
 sheet-of-requires : tie.Need-sheet-of-requires
 sheet-of-requires c κs =
-    let b = c .before .before .before .before in
-    let k = b .before .args .kind in
-    ap (accepted (b .before .args .set)) (sym (bands-are k (b .numbers-of .result) (b .numbers-of .ensures)))
-    ∙ sym (c .before .all-in-range .ensures) ∙ not-false (c .before .all-in-range .result) (c .if2 .left)
+    let t = c .before .before .before in
+    let e = t .before .before .before in
+    let b = e .before .before .before .before in
+    let k = b .before .args .kind in (
+      record { scaled = t .before .before .scaled-powers .ensures; reached = t .before .level-thresholds .ensures; started = t .level-starts .ensures },
+      ap (accepted (b .before .args .set)) (sym (bands-are k (b .numbers-of .result) (b .numbers-of .ensures)))
+          ∙ sym (e .before .all-in-range .ensures) ∙ not-false (e .before .all-in-range .result) (e .if2 .left),
+    )
 
 returns-3 : tie.Need-returns-3
 returns-3 c =
-    let b = c .before .before .before .before .before in
+    let e = c .before .before .before .before .before .before .before in
+    let b = e .before .before .before .before in
     let k = b .before .args .kind in
     in-order k (b .before .args .set) (b .numbers-of .result .bands) (c .sheet-of .result) (bands-are k (b .numbers-of .result) (b .numbers-of .ensures))
-    (c .before .before .before .if1 .left) (sym (c .before .before .all-in-range .ensures) ∙ not-false (c .before .before .all-in-range .result) (c .before .if2 .left)) (c .sheet-of .ensures)
+    (e .before .before .if1 .left) (sym (e .before .all-in-range .ensures) ∙ not-false (e .before .all-in-range .result) (e .if2 .left)) (c .sheet-of .ensures)
 
 pub rate-spec : {M : Type 1} → statement M
 rate-spec =
@@ -65,5 +79,8 @@ rate-spec =
     returns
     all-in-range-requires
     returns-2
+    scaled-powers-requires
+    level-thresholds-requires
+    level-starts-requires
     sheet-of-requires
     returns-3)

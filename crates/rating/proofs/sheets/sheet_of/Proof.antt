@@ -18,13 +18,13 @@ numbers-of-requires c κs = search needs
 
 -- the numbers fetched are sound, and the position found is small
 got : (c : tie.After-numbers-of) → Fetched (c .before .args .set) (c .numbers-of .result)
-got c = fetched (c .before .args .kind) (c .before .args .set) (c .numbers-of .result) (c .numbers-of .ensures) (c .before .pre)
+got c = fetched (c .before .args .kind) (c .before .args .set) (c .numbers-of .result) (c .numbers-of .ensures) (c .before .pre .1)
 
 small : (c : tie.After-sought) → c .sought .result .at < 500
 small c =
     let b = c .before in
     position-small (b .before .args .kind) (b .before .args .set) (b .numbers-of .result) (c .sought .result .at) (c .sought .result .shifts)
-    (b .numbers-of .ensures) (b .before .pre) (c .sought .ensures)
+    (b .numbers-of .ensures) (b .before .pre .1) (c .sought .ensures)
 
 sought-requires : tie.Need-sought-requires
 sought-requires c κs =
@@ -37,7 +37,7 @@ rating-at-requires c κs = (small c, got (c .before) .sound .near)
 term-of-requires : tie.Need-term-of-requires
 term-of-requires c κs =
     let f = got (c .before .before .before) in
-    (f .sound, (f .acc, (f .sound .first, small (c .before .before))))
+    (c .before .before .before .before .pre .0, (f .sound, (f .acc, (f .sound .first, small (c .before .before)))))
 
 marked-requires : tie.Need-marked-requires
 marked-requires c κs = got (c .before .before .before .before) .sound .count
@@ -45,13 +45,13 @@ marked-requires c κs = got (c .before .before .before .before) .sound .count
 term-of-requires-2 : tie.Need-term-of-requires-2
 term-of-requires-2 c κs =
     let f = got (c .before .before .before .before .before .before .before) in
-    (f .sound, (f .acc, (f .sound .second, small (c .before .before .before .before .before .before))))
+    (c .before .before .before .before .before .before .before .before .pre .0, (f .sound, (f .acc, (f .sound .second, small (c .before .before .before .before .before .before)))))
 
 returns : tie.Need-returns
 returns c =
     let b = c .before .before .before .before .before .before .before .before in
     let w = c .before .before .before .before .before .before .before .sought in
-    sheet-made (b .before .args .kind) (b .before .args .set) (b .before .pre) (b .numbers-of .result) (b .numbers-of .ensures) (w .result .at) (w .result .shifts) _
+    sheet-made (b .before .args .kind) (b .before .args .set) (b .before .pre .1) (b .numbers-of .result) (b .numbers-of .ensures) (w .result .at) (w .result .shifts) _
     (record {
       search = w .ensures;
       rating = c .before .before .before .before .before .before .rating-at .ensures;
@@ -65,7 +65,7 @@ returns-2 : tie.Need-returns-2
 returns-2 c =
     let b = c .before .before .before .before .before .before in
     let w = c .before .before .before .before .before .sought in
-    sheet-made (b .before .args .kind) (b .before .args .set) (b .before .pre) (b .numbers-of .result) (b .numbers-of .ensures) (w .result .at) (w .result .shifts) _
+    sheet-made (b .before .args .kind) (b .before .args .set) (b .before .pre .1) (b .numbers-of .result) (b .numbers-of .ensures) (w .result .at) (w .result .shifts) _
     (record {
       search = w .ensures;
       rating = c .before .before .before .before .rating-at .ensures;

@@ -14,35 +14,35 @@ use Rattle.rating.proofs.sheets.weigh.Statement.{statement}
 use Rattle.rating.proofs.sheets.weigh.Tie as tie
 
 levels-requires : tie.Need-levels-requires
-levels-requires c κs = (count-most (c .pre .0), (c .pre .1 .0, c .pre .1 .1))
+levels-requires c κs = (count-most (c .pre .1 .0), (c .pre .1 .1 .0, c .pre .1 .1 .1))
 
 least-requires : tie.Need-least-requires
-least-requires c κs = (count-some (c .before .pre .0), count-most (c .before .pre .0))
+least-requires c κs = (count-some (c .before .before .pre .1 .0), count-most (c .before .before .pre .1 .0))
 
 energies-requires : tie.Need-energies-requires
 energies-requires c κs =
-    let b = c .before .before in
-    (count-most (b .pre .0), λ i h. subst (λ (m : ℕ). m ≤ at (c .before .levels .result) i) (sym (c .least .ensures)) (least-below (at (c .before .levels .result)) (b .args .bands) i h))
+    let b = c .before .before .before .before in
+    (b .pre .0 .scaled, (count-most (b .pre .1 .0), λ i h. subst (λ (m : ℕ). m ≤ at (c .before .before .before .levels .result) i) (sym (c .before .least .ensures)) (least-below (at (c .before .before .before .levels .result)) (b .args .bands) i h)))
 
 level-requires : tie.Need-level-requires
 level-requires c κs =
-    let b = c .before .before .before in
-    let f : ℕ → ℕ = at (c .before .before .levels .result) in
-    rw (c .energies .ensures ∙ ap (energiesOf f (b .args .bands)) (c .before .least .ensures)) (energies-bounds f (b .args .bands) (b .pre .0))
+    let b = c .before .before .before .before .before in
+    let f : ℕ → ℕ = at (c .before .before .before .before .levels .result) in
+    (rw (c .energies .ensures ∙ ap (energiesOf f (b .args .bands)) (c .before .before .least .ensures)) (energies-bounds f (b .args .bands) (b .pre .1 .0)), (b .pre .0 .reached, b .pre .0 .started))
 
 returns : tie.Need-returns
 returns c =
-    let b = c .before .before .before .before in
-    let l = c .before .before .before in
+    let b = c .before .before .before .before .before .before in
+    let l = c .before .before .before .before .before in
     let n : ℕ = b .args .bands in
     let f : ℕ → ℕ = at (l .levels .result) in
     let g : ℕ → ℕ = levelAt (b .args .airborne) (b .args .set) (b .args .entries) in
-    let e : leastOf f n ≡ leastOf g n = least-alike f g n (count-some (b .pre .0)) (l .levels .ensures .each) in
+    let e : leastOf f n ≡ leastOf g n = least-alike f g n (count-some (b .pre .1 .0)) (l .levels .ensures .each) in
     record {
-      least-is = c .before .before .least .ensures ∙ e;
+      least-is = c .before .before .before .least .ensures ∙ e;
       step-is = c .level .ensures
           ∙ ap u (c .before .energies .ensures
-          ∙ ap (energiesOf f n) (c .before .before .least .ensures ∙ e)
+          ∙ ap (energiesOf f n) (c .before .before .before .least .ensures ∙ e)
           ∙ energies-alike f g n (leastOf g n) (l .levels .ensures .each));
     }
 
