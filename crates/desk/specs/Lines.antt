@@ -1,8 +1,10 @@
 -- Document 01, "Request and answer lines".
 
 -- the texts of requests and of answers
-pub use Rattle.line.specs.Texts.{Band, kindText, KeyOk, BandOk}
-unfoldable pub use Rattle.line.specs.Texts.{lineText, decimal, numberText, keyByte, levelText, bandText, requestText, ratedText, noRequestText}
+pub use Rattle.line.specs.Texts.{Band, KeyOk, BandOk}
+pub use Rattle.answer.specs.Texts.{kindText}
+unfoldable pub use Rattle.answer.specs.Texts.{lineText, decimal, numberText, ratedText, noRequestText}
+unfoldable pub use Rattle.line.specs.Texts.{keyByte, levelText, bandText, requestText}
 -- the request that a line is, and its answer
 pub use Rattle.line.specs.Reading.{Request}
 unfoldable pub use Rattle.line.specs.Reading.{requestOf}

@@ -2,7 +2,7 @@
 -- Assumes nothing.
 use mathlib.Core.Path.{_≡_, refl, sym, _∙_, ap, subst}
 use mathlib.Core.Bool.{Bool, true, false, cond, _&&_}
-use mathlib.Core.List.{List, [], _∷_, _++_}
+use mathlib.Core.List.{List, [], _∷_, _++_, append-assoc}
 use Prim.Native.Nat.{ℕ, zero, suc, _+_, _*_, _-_, _/_, _%_, _≤_, _<_}
 use native.Mathlib.Omega.{arith}
 use borrow.Author.Tests.{lt-ltb, le-ltb, le-leb, lt-leb, eq-eqb, ne-eqb, ltb-true, ltb-false, eqb-true, eqb-false}
@@ -12,15 +12,29 @@ use lib.ListN.{length, getD, take, drop, length-append}
 use Rattle.laws.specs.Parts.{P, N}
 use Rattle.line.specs.declared.bands.Figure.{Figure}
 use Rattle.line.specs.declared.bands.Figure.the-variants.{Read, Nothing}
-use Rattle.line.specs.Texts.{decimal, figureText, levelText, markText, bandText, Band, BandOk}
+use Rattle.answer.specs.Texts.{decimal}
+use Rattle.line.specs.Texts.{figureText, levelText, markText, bandText, Band, BandOk}
 use Rattle.line.specs.Texts.Band.{missing, level}
 use Rattle.line.specs.Texts.BandOk.{gone, given}
 use Rattle.line.specs.Reading.{byteAt, digitOf, digitAt, tenthAt, thirdAt, secondAt, firstAt, figureAt, Found, signedBy, levelAt, bandAt}
 use Rattle.line.specs.Reading.Found.{found}
 use Rattle.line.proofs.Leaves.{inside, digit-read, digit-made}
 use Rattle.line.proofs.Readers.{tenth-got, third-point, second-point, second-more, first-point, first-more, figure-some, figure-none}
-use Rattle.line.proofs.Decimals.{decimal-one, decimal-step, figure-step}
+use Rattle.answer.proofs.Decimals.{decimal-one, decimal-step}
 use Rattle.line.proofs.Stands.{Stands, Stood, one-more, joined, front-part, back-part, move}
+
+figure-step : (a b : ℕ) → b < 10 → figureText (10 * a + b) ≡ (decimal a ++ (46 ∷ [])) ++ ((48 + b) ∷ [])
+unfolding figureText
+figure-step a b k =
+    ap (λ (n : ℕ). decimal n ++ (46 ∷ (48 + (10 * a + b) % 10) ∷ [])) (tenth a b k)
+    ∙ ap (λ (n : ℕ). decimal a ++ (46 ∷ (48 + n) ∷ [])) (unit a b k)
+    ∙ sym (append-assoc (decimal a) (46 ∷ []) ((48 + b) ∷ []))
+  where
+    tenth : (a b : ℕ) → b < 10 → (10 * a + b) / 10 ≡ a
+    tenth a b k = omega arith
+
+    unit : (a b : ℕ) → b < 10 → (10 * a + b) % 10 ≡ b
+    unit a b k = omega arith
 
 -- a figure that was read stands there
 pub record FigureAt (s : List ℕ) (at m next : ℕ) : Type 0 where

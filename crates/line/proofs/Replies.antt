@@ -1,12 +1,12 @@
--- What the code answers to what it read is what the request is answered. Assumes nothing.
+-- What the code answers to what it read is what the request is answered; and the text of a reply. Assumes nothing.
 use mathlib.Core.Path.{_≡_, refl, sym, _∙_, ap, subst}
 use mathlib.Core.Bool.{Bool, true, false, cond, _&&_}
-use mathlib.Core.List.{List, [], _∷_, _++_}
+use mathlib.Core.List.{List, [], _∷_, _++_, append-assoc}
 use Prim.Native.Nat.{ℕ, zero, suc, _+_, _≤_, _<_}
 use native.Mathlib.Omega.{arith}
 use borrow.Author.Tests.{le-leb, lt-leb, leb-true, leb-false, eq-eqb, ne-eqb, eqb-true, eqb-false}
 use lib.Dec.{leb, eqb}
-use lib.ListN.{length, take, drop}
+use lib.ListN.{length, take, drop, length-append, length-drop}
 use lib.Seq.{length-take-le}
 use Rattle.quantity.specs.declared.quantities.Tenths.{Tenths}
 use Rattle.quantity.specs.declared.quantities.BandSet.{BandSet}
@@ -21,11 +21,12 @@ use Rattle.line.specs.declared.bands.Gathered.{Gathered}
 use Rattle.line.specs.declared.requests.Named.{Named}
 use Rattle.line.specs.declared.requests.Named.the-variants as named
 use Rattle.line.specs.declared.requests.Reply.{Reply}
-use Rattle.line.specs.Texts.{Band, kindText}
+use Rattle.answer.specs.Texts.{others, lineText, kindText, fieldsOf, ratedText, noRequestText}
+use Rattle.line.specs.Texts.{Band}
 use Rattle.line.specs.Reading.{byteAt, Bands, bandsFrom, bandsAt, keySpan, kindAt, Asked, withBands, withKey, withKind, requestAt}
 use Rattle.line.specs.Reading.Bands.{broken, ended}
 use Rattle.line.specs.Reading.Asked.{asked}
-use Rattle.line.specs.Answers.{firstFault, marksOf, valuesOf, setOf, judgedBy, judged, judgedIn, Holds, GatheredAt, noReply, replyTo, replyAt, Keyed}
+use Rattle.line.specs.Answers.{firstFault, marksOf, valuesOf, setOf, judgedBy, judged, judgedIn, Holds, GatheredAt, noReply, replyTo, replyAt, replyText, Keyed}
 use Rattle.line.proofs.Leaves.{inside}
 use Rattle.line.proofs.Stands.{Stands, fits}
 use Rattle.line.proofs.Wholes.{BandsGood, bands-ok, span-most, kind-ok, kind-two, text-length, RequestAt, RequestGood, request-ok}
@@ -64,10 +65,10 @@ judged-same kind bands r h =
     go false e = rw e
 
 positive : (s : List ℕ) (at : ℕ) (b : Bands) (bs : List Band) (next : ℕ) → b ≡ ended bs next → BandsGood s at [] b → 0 < next
-unfolding Rattle.line.specs.Texts.others
+unfolding Rattle.answer.specs.Texts.others
 positive s at b bs next e g = go (subst (BandsGood s at []) e g)
   where
-    some : (fs : List (List ℕ)) → 0 < length (Rattle.line.specs.Texts.others fs)
+    some : (fs : List (List ℕ)) → 0 < length (Rattle.answer.specs.Texts.others fs)
     some [] = omega arith
     some (f ∷ fs) = omega arith
 
@@ -207,3 +208,26 @@ reply-keyed s at r e = subst (Keyed s) (sym e) (go (requestAt s at) (request-ok 
         by-test : (t : Bool) → Keyed s (cond t (record { next = next; kind = kind; key = at + 3; len = length key; rated = judged kind bands }) noReply)
         by-test true = full
         by-test false = empty
+
+-- the text of a reply, and how long it is
+pub reply-none : (s : List ℕ) (r : Reply) → r .next ≡ 0 → replyText s r ≡ noRequestText
+unfolding replyText
+reply-none s r e = rw (eq-eqb (r .next) 0 e)
+
+module _ (s : List ℕ) (r : Reply) (some : r .next ≡ 0 → ⊥) where
+  abbrev headText : List ℕ
+  headText = kindText (r .kind) ++ (9 ∷ take (r .len) (drop (r .key) s))
+
+  pub reply-some : replyText s r ≡ headText ++ others (fieldsOf (r .rated))
+  unfolding replyText ratedText lineText others
+  reply-some =
+      rw (ne-eqb (r .next) 0 some)
+      (sym (append-assoc (kindText (r .kind)) (9 ∷ take (r .len) (drop (r .key) s)) (others (fieldsOf (r .rated)))))
+
+  pub head-length : Keyed s r → length headText ≡ 3 + r .len
+  head-length k =
+      length-append (kindText (r .kind)) (9 ∷ take (r .len) (drop (r .key) s))
+      ∙ omega (arith, kind-two (r .kind), length-take-le (r .len) (drop (r .key) s) (omega (arith, k .within, length-drop (r .key) s)))
+
+  pub reply-length : Keyed s r → length (replyText s r) ≡ 3 + r .len + length (others (fieldsOf (r .rated)))
+  reply-length k = ap length reply-some ∙ length-append headText (others (fieldsOf (r .rated))) ∙ ap (λ (n : ℕ). n + length (others (fieldsOf (r .rated)))) (head-length k)

@@ -17,7 +17,8 @@ use Rattle.line.specs.declared.blocks.Piece.{Piece}
 use Rattle.line.specs.declared.blocks.Turn.{Turn}
 use Rattle.line.specs.Reading.{byteAt, Asked, requestAt}
 use Rattle.line.specs.Reading.Asked.{asked}
-use Rattle.line.specs.Answers.{front, fitsAt, placed, wroteOf, judged, noReply, replyTo, replyAt, replyText, Keyed}
+use Rattle.answer.specs.Texts.{front}
+use Rattle.line.specs.Answers.{fitsAt, placed, wroteOf, judged, noReply, replyTo, replyAt, replyText, Keyed}
 use Rattle.line.specs.Blocks.{oneMore, feedIn, movedBy, feedAfter, restPiece, feedPiece, pieceAt, Step, skipBy, answerBy, stepAt, Block, blockFrom, blockOf, Turned, Answered}
 use Rattle.line.proofs.Stands.{fits}
 use Rattle.line.proofs.Wholes.{RequestAt, RequestGood, request-ok, text-length}

@@ -13,7 +13,8 @@ use Rattle.rating.specs.declared.kinds.Kind.{Kind}
 use Rattle.rating.specs.declared.kinds.Kind.the-variants.{A3, A1, I3, I1}
 use Rattle.line.specs.declared.requests.Named.{Named}
 use Rattle.line.specs.declared.requests.Named.the-variants as named
-use Rattle.line.specs.Texts.{others, lineText, kindText, keyByte, KeyBytes, KeyOk, Band, bandText, BandOk, BandsOk, requestText}
+use Rattle.answer.specs.Texts.{others, lineText, kindText}
+use Rattle.line.specs.Texts.{keyByte, KeyBytes, KeyOk, Band, bandText, BandOk, BandsOk, requestText}
 use Rattle.line.specs.Reading.{byteAt, digitOf, digitAt, Found, bandAt, Bands, bandsFrom, bandsAt, keySpan, kindAt, Asked, withBands, withKey, withKind, requestAt, Request, whole, requestOf}
 use Rattle.line.specs.Reading.Found.{found}
 use Rattle.line.specs.Reading.Bands.{broken, ended}

@@ -24,7 +24,8 @@ use Rattle.line.specs.declared.bands.Gathered.{Gathered}
 use Rattle.line.specs.declared.requests.Reply.{Reply}
 use Rattle.line.specs.declared.lines.Wrote.{Wrote}
 use Rattle.line.specs.declared.lines.Wrote.the-variants as wrote
-use Rattle.line.specs.Texts.{Band, ratedText, noRequestText}
+use Rattle.line.specs.Texts.{Band}
+use Rattle.answer.specs.Texts.{ratedText, noRequestText}
 use Rattle.line.specs.Texts.Band.{missing, level}
 use Rattle.line.specs.Reading.{Found, Bands, Asked, Request, requestAt, requestOf}
 use Rattle.line.specs.Reading.Found.{found}
@@ -171,10 +172,6 @@ judgedIn kind r =
 abbrev pub GatheredAt : Bands → Gathered → Type 0
 GatheredAt broken r = r .next ≡ 0
 GatheredAt (ended bands next) r = (r .next ≡ next) × Holds bands r
-
--- a field written at the front of a buffer: the bytes after it stay
-abbrev pub front : List ℕ → List ℕ → List ℕ
-front t l = t ++ drop (length t) l
 
 -- the key of a reply stands within the line
 pub record Keyed (s : List ℕ) (r : Reply) : Type 0 where

@@ -8,7 +8,6 @@ mod blocks;
 mod bytes;
 mod lines;
 mod requests;
-mod texts;
 
 pub use blocks::Progress;
 pub use blocks::answer_block;

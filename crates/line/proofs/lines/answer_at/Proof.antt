@@ -9,8 +9,8 @@ use Rattle.line.proofs.lines.answer_at.Statement.{statement}
 use Rattle.line.proofs.lines.answer_at.Tie as tie
 use Rattle.line.proofs.lines.answer_at.Reads as reads
 use Rattle.line.proofs.lines.answer_at.Lts as lts
-use Rattle.line.proofs.texts.put_reply.Reads as put-reply-reads
-use Rattle.line.proofs.texts.reply_len.Reads as reply-len-reads
+use Rattle.line.proofs.lines.put_reply.Reads as put-reply-reads
+use Rattle.line.proofs.lines.reply_len.Reads as reply-len-reads
 
 -- src/lines.rt:23:9
 reply-len-requires : tie.Need-reply-len-requires
