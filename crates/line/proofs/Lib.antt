@@ -1,10 +1,4 @@
--- Laws of lines: single bytes, texts at a position, readers, and their exactness.
-pub mod Leaves
-pub mod Readers
-pub mod Stands
-pub mod Exact
-pub mod Gathers
-pub mod Wholes
+-- Laws of lines: what is answered, where it is placed, turns, blocks and runs.
 pub mod Replies
 pub mod Placing
 pub mod Turns
