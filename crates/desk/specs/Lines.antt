@@ -1,13 +1,16 @@
 -- Document 01, "Request and answer lines".
 
 -- the texts of requests and of answers
-pub use Rattle.line.specs.Texts.{Band, kindText, KeyOk, BandOk}
-unfoldable pub use Rattle.line.specs.Texts.{lineText, decimal, numberText, keyByte, levelText, bandText, requestText, ratedText, noRequestText}
+pub use Rattle.request.specs.Texts.{Band, KeyOk, BandOk}
+pub use Rattle.answer.specs.Texts.{kindText}
+unfoldable pub use Rattle.answer.specs.Texts.{lineText, decimal, numberText, ratedText, noRequestText}
+unfoldable pub use Rattle.request.specs.Texts.{keyByte, levelText, bandText, requestText}
 -- the request that a line is, and its answer
-pub use Rattle.line.specs.Reading.{Request}
-unfoldable pub use Rattle.line.specs.Reading.{requestOf}
+pub use Rattle.request.specs.Reading.{Request}
+unfoldable pub use Rattle.request.specs.Reading.{requestOf}
 pub use Rattle.line.specs.Answers.{answerTo}
-unfoldable pub use Rattle.line.specs.Answers.{firstFault, judged, answerOf}
+unfoldable pub use Rattle.request.specs.Gathering.{firstFault}
+unfoldable pub use Rattle.line.specs.Answers.{judged, answerOf}
 -- a whole run: one answer for each line, in order
 unfoldable pub use Rattle.line.specs.Answers.{linesOf, answersTo, answersOf}
 -- "The library writes an answer line from an offset that the caller names; bytes before it and after the line keep their

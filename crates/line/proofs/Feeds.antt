@@ -11,11 +11,12 @@ use lib.IntN.{ℤ, pos, negsuc}
 use lib.ListN.{length, take, drop, length-append}
 use Rattle.rating.specs.declared.kinds.Kind.{Kind}
 use Rattle.rating.specs.declared.kinds.Kind.the-variants.{A3, A1, I3, I1}
-use Rattle.line.specs.Texts.{others, lineText, decimal, decimalBy, figureText, levelText, markText, bandText, kindText, KeyBytes, Band, requestText}
-use Rattle.line.specs.Texts.Band.{missing, level}
+use Rattle.answer.specs.Texts.{others, lineText, decimal, decimalBy, kindText}
+use Rattle.request.specs.Texts.{figureText, levelText, markText, bandText, KeyBytes, Band, requestText}
+use Rattle.request.specs.Texts.Band.{missing, level}
 use Rattle.line.specs.Answers.{joined, linesOf}
 use Rattle.line.specs.Blocks.{oneMore, feedIn, movedBy, afterFeed}
-use Rattle.line.proofs.Leaves.{key-range}
+use Rattle.request.proofs.Leaves.{key-range}
 use Rattle.line.proofs.Turns.{feed-cons}
 
 abbrev pub oneFor : ℕ → ℕ

@@ -1,14 +1,5 @@
--- Laws of lines: single bytes, decimal texts, texts at a position, readers, and their exactness.
-pub mod Leaves
-pub mod Readers
-pub mod Decimals
-pub mod Stands
-pub mod Exact
-pub mod Gathers
-pub mod Wholes
+-- Laws of lines: what is answered, where it is placed, turns, blocks and runs.
 pub mod Replies
-pub mod Fronts
-pub mod Writers
 pub mod Placing
 pub mod Turns
 pub mod Runs

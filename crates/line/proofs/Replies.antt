@@ -1,40 +1,69 @@
--- What the code answers to what it read is what the request is answered. Assumes nothing.
+-- What the code answers to what it read is what the request is answered; and the text of a reply. Assumes nothing.
 use mathlib.Core.Path.{_≡_, refl, sym, _∙_, ap, subst}
 use mathlib.Core.Bool.{Bool, true, false, cond, _&&_}
-use mathlib.Core.List.{List, [], _∷_, _++_}
+use mathlib.Core.List.{List, [], _∷_, _++_, append-assoc}
 use Prim.Native.Nat.{ℕ, zero, suc, _+_, _≤_, _<_}
 use native.Mathlib.Omega.{arith}
 use borrow.Author.Tests.{le-leb, lt-leb, leb-true, leb-false, eq-eqb, ne-eqb, eqb-true, eqb-false}
 use lib.Dec.{leb, eqb}
-use lib.ListN.{length, take, drop}
+use lib.ListN.{length, take, drop, length-append, length-drop}
 use lib.Seq.{length-take-le}
 use Rattle.quantity.specs.declared.quantities.Tenths.{Tenths}
 use Rattle.quantity.specs.declared.quantities.BandSet.{BandSet}
-use Rattle.quantity.specs.declared.refusals.Refusal.the-variants.{BandCount}
+use Rattle.quantity.specs.declared.refusals.Refusal.the-variants.{BandCount, NoReading, BandRange}
 use Rattle.rating.specs.declared.kinds.Kind.{Kind}
 use Rattle.rating.specs.declared.kinds.Kind.the-variants.{A3, A1, I3, I1}
 use Rattle.rating.specs.declared.sheets.Rated.{Rated}
 use Rattle.rating.specs.declared.sheets.Rated.the-variants.{Refused}
 use Rattle.rating.specs.Kinds.{bandsOf}
 use Rattle.rating.specs.Sheets.{ratedOf}
-use Rattle.line.specs.declared.bands.Gathered.{Gathered}
-use Rattle.line.specs.declared.requests.Named.{Named}
-use Rattle.line.specs.declared.requests.Named.the-variants as named
+use Rattle.request.specs.declared.bands.Gathered.{Gathered}
+use Rattle.request.specs.declared.heads.Named.{Named}
+use Rattle.request.specs.declared.heads.Named.the-variants as named
 use Rattle.line.specs.declared.requests.Reply.{Reply}
-use Rattle.line.specs.Texts.{Band, kindText}
-use Rattle.line.specs.Reading.{byteAt, Bands, bandsFrom, bandsAt, keySpan, kindAt, Asked, withBands, withKey, withKind, requestAt}
-use Rattle.line.specs.Reading.Bands.{broken, ended}
-use Rattle.line.specs.Reading.Asked.{asked}
-use Rattle.line.specs.Answers.{firstFault, marksOf, valuesOf, setOf, judgedBy, judged, judgedIn, Holds, GatheredAt, noReply, replyTo, replyAt, Keyed}
-use Rattle.line.proofs.Leaves.{inside}
-use Rattle.line.proofs.Stands.{Stands, fits}
-use Rattle.line.proofs.Wholes.{BandsGood, bands-ok, span-most, kind-ok, kind-two, text-length, RequestAt, RequestGood, request-ok}
+use Rattle.answer.specs.Texts.{others, lineText, kindText, fieldsOf, ratedText, noRequestText}
+use Rattle.request.specs.Texts.{Band}
+use Rattle.request.specs.Reading.{byteAt, Bands, bandsFrom, bandsAt, keySpan, kindAt, Asked, withBands, withKey, withKind, requestAt}
+use Rattle.request.specs.Reading.Bands.{broken, ended}
+use Rattle.request.specs.Reading.Asked.{asked}
+use Rattle.request.specs.Gathering.{firstFault, marksOf, valuesOf, Holds, GatheredAt}
+use Rattle.line.specs.Answers.{setOf, judgedBy, judged, judgedIn, noReply, replyTo, replyAt, replyText, Keyed}
+use Rattle.request.proofs.Leaves.{inside}
+use Rattle.request.proofs.Stands.{Stands, fits}
+use Rattle.request.proofs.Wholes.{BandsGood, bands-ok, span-most, kind-ok, kind-two, text-length, RequestAt, RequestGood, request-ok}
 
 sixteen : (kind : Kind) → bandsOf kind ≤ 16
 sixteen A3 = omega arith
 sixteen A1 = omega arith
 sixteen I3 = omega arith
 sixteen I1 = omega arith
+
+-- what a request is answered, by the tests of the code
+module _ (kind : Kind) (r : Gathered) where
+  abbrev sheet : Rated
+  sheet = ratedOf kind (record { values = r .values; marks = r .marks; len = r .count })
+
+  pub judge-count : (n : ℕ) → n ≡ bandsOf kind → (r .count ≡ n → ⊥) → Refused BandCount ≡ judgedIn kind r
+  judge-count n e h = rw (ne-eqb (r .count) (bandsOf kind) (λ k. h (k ∙ sym e)))
+
+  by-fault : (n : ℕ) (x : Rated) → n ≡ bandsOf kind → r .count ≡ n → x ≡ judgedBy (r .fault) sheet → x ≡ judgedIn kind r
+  by-fault n x e h f = rw (eq-eqb (r .count) (bandsOf kind) (h ∙ e)) f
+
+  pub judge-missing : (n : ℕ) → n ≡ bandsOf kind → r .count ≡ n → r .fault ≡ 3 → Refused NoReading ≡ judgedIn kind r
+  judge-missing n e h f = by-fault n (Refused NoReading) e h (rw f)
+
+  pub judge-range : (n : ℕ) → n ≡ bandsOf kind → r .count ≡ n → (r .fault ≡ 3 → ⊥) → (r .fault ≡ 0 → ⊥) → Refused BandRange ≡ judgedIn kind r
+  judge-range n e h f g = by-fault n (Refused BandRange) e h (go (r .fault) f g)
+    where
+      go : (k : ℕ) → (k ≡ 3 → ⊥) → (k ≡ 0 → ⊥) → Refused BandRange ≡ judgedBy k sheet
+      go zero f g = absurd (g refl)
+      go (suc zero) f g = refl
+      go (suc (suc zero)) f g = refl
+      go (suc (suc (suc zero))) f g = absurd (f refl)
+      go (suc (suc (suc (suc k)))) f g = refl
+
+  pub judge-sheet : (n : ℕ) (x : Rated) → n ≡ bandsOf kind → r .count ≡ n → r .fault ≡ 0 → x ≡ sheet → x ≡ judgedIn kind r
+  judge-sheet n x e h f g = by-fault n x e h (rw f g)
 
 -- what the code gathered is judged as the bands are
 pub judged-same : (kind : Kind) (bands : List Band) (r : Gathered) → Holds bands r → judgedIn kind r ≡ judged kind bands
@@ -64,15 +93,15 @@ judged-same kind bands r h =
     go false e = rw e
 
 positive : (s : List ℕ) (at : ℕ) (b : Bands) (bs : List Band) (next : ℕ) → b ≡ ended bs next → BandsGood s at [] b → 0 < next
-unfolding Rattle.line.specs.Texts.others
+unfolding Rattle.answer.specs.Texts.others
 positive s at b bs next e g = go (subst (BandsGood s at []) e g)
   where
-    some : (fs : List (List ℕ)) → 0 < length (Rattle.line.specs.Texts.others fs)
+    some : (fs : List (List ℕ)) → 0 < length (Rattle.answer.specs.Texts.others fs)
     some [] = omega arith
     some (f ∷ fs) = omega arith
 
     go : BandsGood s at [] (ended bs next) → 0 < next
-    go k = omega (arith, k .ends, some (mathlib.Core.List.map Rattle.line.specs.Texts.bandText (k .new)))
+    go k = omega (arith, k .ends, some (mathlib.Core.List.map Rattle.request.specs.Texts.bandText (k .new)))
 
 -- the ways out of `keyed`
 module _ (s : List ℕ) (at : ℕ) (kind : Kind) (n : ℕ) (span : n ≡ keySpan (drop (at + 3) s)) where
@@ -161,7 +190,7 @@ module _ (s : List ℕ) (at : ℕ) (kind : Kind) (n : ℕ) (span : n ≡ keySpan
 -- the ways out of `reply_at`
 module _ (s : List ℕ) (at : ℕ) where
   pub kind-inside : (k : Kind) → kindAt s at ≡ named.Is k → at + 1 < length s
-  kind-inside k e = go k (subst (Rattle.line.proofs.Wholes.KindGood s at) e (kind-ok s at))
+  kind-inside k e = go k (subst (Rattle.request.proofs.Wholes.KindGood s at) e (kind-ok s at))
     where
       go : (k : Kind) → Stands s at (kindText k) → at + 1 < length s
       go A3 h = omega (arith, h .1 .0 .within)
@@ -202,8 +231,31 @@ reply-keyed s at r e = subst (Keyed s) (sym e) (go (requestAt s at) (request-ok 
         full = record { within = within; most = g .key-ok .most }
           where
             within : at + 3 + length key ≤ length s
-            within = omega (arith, fits s (Rattle.line.specs.Texts.requestText kind key bands) at (omega (arith, text-length kind key bands)) (g .stands), text-length kind key bands)
+            within = omega (arith, fits s (Rattle.request.specs.Texts.requestText kind key bands) at (omega (arith, text-length kind key bands)) (g .stands), text-length kind key bands)
 
         by-test : (t : Bool) → Keyed s (cond t (record { next = next; kind = kind; key = at + 3; len = length key; rated = judged kind bands }) noReply)
         by-test true = full
         by-test false = empty
+
+-- the text of a reply, and how long it is
+pub reply-none : (s : List ℕ) (r : Reply) → r .next ≡ 0 → replyText s r ≡ noRequestText
+unfolding replyText
+reply-none s r e = rw (eq-eqb (r .next) 0 e)
+
+module _ (s : List ℕ) (r : Reply) (some : r .next ≡ 0 → ⊥) where
+  abbrev headText : List ℕ
+  headText = kindText (r .kind) ++ (9 ∷ take (r .len) (drop (r .key) s))
+
+  pub reply-some : replyText s r ≡ headText ++ others (fieldsOf (r .rated))
+  unfolding replyText ratedText lineText others
+  reply-some =
+      rw (ne-eqb (r .next) 0 some)
+      (sym (append-assoc (kindText (r .kind)) (9 ∷ take (r .len) (drop (r .key) s)) (others (fieldsOf (r .rated)))))
+
+  pub head-length : Keyed s r → length headText ≡ 3 + r .len
+  head-length k =
+      length-append (kindText (r .kind)) (9 ∷ take (r .len) (drop (r .key) s))
+      ∙ omega (arith, kind-two (r .kind), length-take-le (r .len) (drop (r .key) s) (omega (arith, k .within, length-drop (r .key) s)))
+
+  pub reply-length : Keyed s r → length (replyText s r) ≡ 3 + r .len + length (others (fieldsOf (r .rated)))
+  reply-length k = ap length reply-some ∙ length-append headText (others (fieldsOf (r .rated))) ∙ ap (λ (n : ℕ). n + length (others (fieldsOf (r .rated)))) (head-length k)

@@ -15,12 +15,13 @@ use Rattle.line.specs.declared.lines.Wrote.{Wrote}
 use Rattle.line.specs.declared.lines.Wrote.the-variants as wrote
 use Rattle.line.specs.declared.blocks.Piece.{Piece}
 use Rattle.line.specs.declared.blocks.Turn.{Turn}
-use Rattle.line.specs.Reading.{byteAt, Asked, requestAt}
-use Rattle.line.specs.Reading.Asked.{asked}
-use Rattle.line.specs.Answers.{front, fitsAt, placed, wroteOf, judged, noReply, replyTo, replyAt, replyText, Keyed}
+use Rattle.request.specs.Reading.{byteAt, Asked, requestAt}
+use Rattle.request.specs.Reading.Asked.{asked}
+use Rattle.answer.specs.Texts.{front}
+use Rattle.line.specs.Answers.{fitsAt, placed, wroteOf, judged, noReply, replyTo, replyAt, replyText, Keyed}
 use Rattle.line.specs.Blocks.{oneMore, feedIn, movedBy, feedAfter, restPiece, feedPiece, pieceAt, Step, skipBy, answerBy, stepAt, Block, blockFrom, blockOf, Turned, Answered}
-use Rattle.line.proofs.Stands.{fits}
-use Rattle.line.proofs.Wholes.{RequestAt, RequestGood, request-ok, text-length}
+use Rattle.request.proofs.Stands.{fits}
+use Rattle.request.proofs.Wholes.{RequestAt, RequestGood, request-ok, text-length}
 use Rattle.line.proofs.Replies.{reply-keyed}
 use Rattle.line.proofs.Placing.{none-keyed}
 
@@ -123,7 +124,7 @@ reply-ahead s at = go (requestAt s at) (request-ok s at)
         by-length : (t : Bool) → (cond t reply noReply .next ≡ 0 → ⊥) → (at < cond t reply noReply .next) × (cond t reply noReply .next ≤ length s)
         by-length true z = (
           omega (arith, g .ends, text-length kind key bands),
-          omega (arith, g .ends, fits s (Rattle.line.specs.Texts.requestText kind key bands) at (omega (arith, text-length kind key bands)) (g .stands)),
+          omega (arith, g .ends, fits s (Rattle.request.specs.Texts.requestText kind key bands) at (omega (arith, text-length kind key bands)) (g .stands)),
         )
         by-length false z = absurd (z refl)
 

@@ -1,76 +1,29 @@
 -- Document 01, "Request and answer lines" and "Refusal numbers": what a request is answered, and what a whole run is.
 use mathlib.Core.Bool.{Bool, true, false, cond}
-use mathlib.Core.List.{List, [], _∷_, _++_, map}
-use mathlib.Core.Path.{_≡_}
-use Prim.Native.Nat.{ℕ, zero, suc, _+_, _*_, _-_, _≤_}
+use mathlib.Core.List.{List, [], _∷_, _++_}
+use Prim.Native.Nat.{ℕ, zero, suc, _+_, _≤_}
 use lib.Dec.{leb, eqb}
-use lib.IntN.{ℤ, pos}
-use lib.ListN.{length, take, drop, replicate}
-use Rattle.quantity.specs.Quantities.{inRange}
-use Rattle.quantity.specs.declared.quantities.Tenths.{Tenths}
+use lib.ListN.{length, take, drop}
 use Rattle.quantity.specs.declared.quantities.BandSet.{BandSet}
-use Rattle.quantity.specs.declared.refusals.Refusal.{Refusal}
 use Rattle.quantity.specs.declared.refusals.Refusal.the-variants.{BandCount, NoReading, BandRange, NoRoom, NotRequest}
 use Rattle.rating.specs.declared.kinds.Kind.{Kind}
 use Rattle.rating.specs.declared.kinds.Kind.the-variants.{A3}
 use Rattle.rating.specs.declared.sheets.Rated.{Rated}
-use Rattle.rating.specs.declared.sheets.Rated.the-variants.{Rating, Refused}
+use Rattle.rating.specs.declared.sheets.Rated.the-variants.{Refused}
 use Rattle.rating.specs.Kinds.{bandsOf}
 use Rattle.rating.specs.Sheets.{ratedOf}
-use Rattle.line.specs.declared.bands.Field.{Field}
-use Rattle.line.specs.declared.bands.Figure.{Figure}
-use Rattle.line.specs.declared.bands.Figure.the-variants.{Read, Nothing}
-use Rattle.line.specs.declared.bands.Gathered.{Gathered}
+use Rattle.answer.specs.Texts.{ratedText, noRequestText}
+use Rattle.request.specs.declared.bands.Gathered.{Gathered}
+use Rattle.request.specs.Texts.{Band}
+use Rattle.request.specs.Reading.{Asked, Request, requestAt, requestOf}
+use Rattle.request.specs.Reading.Asked.{asked}
+use Rattle.request.specs.Reading.Request.{none, request}
+use Rattle.request.specs.Gathering.{firstFault, marksOf, valuesOf}
 use Rattle.line.specs.declared.requests.Reply.{Reply}
 use Rattle.line.specs.declared.lines.Wrote.{Wrote}
 use Rattle.line.specs.declared.lines.Wrote.the-variants as wrote
-use Rattle.line.specs.Texts.{Band, ratedText, noRequestText}
-use Rattle.line.specs.Texts.Band.{missing, level}
-use Rattle.line.specs.Reading.{Found, Bands, Asked, Request, requestAt, requestOf}
-use Rattle.line.specs.Reading.Found.{found}
-use Rattle.line.specs.Reading.Bands.{broken, ended}
-use Rattle.line.specs.Reading.Asked.{asked}
-use Rattle.line.specs.Reading.Request.{none, request}
-
--- a band's value and its mark; a missing band has none
-abbrev pub nought : Tenths
-nought = record { 0 = pos 0 }
-
-abbrev pub valueOf : Band → Tenths
-valueOf missing = nought
-valueOf (level limit z) = record { 0 = z }
-
-abbrev pub markOf : Band → Bool
-markOf missing = false
-markOf (level limit z) = limit
-
--- the refusal that a band gives, by its number: "bands from the lowest, each 3, 2, 4"; 0 for none
-abbrev pub faultOf : Band → ℕ
-faultOf missing = 3
-faultOf (level limit z) = cond (inRange z) 0 4
-
-abbrev pub orElse : ℕ → ℕ → ℕ
-orElse zero n = n
-orElse (suc m) n = suc m
-
--- of all bands, that of the lowest that gives one
-unfoldable pub firstFault : List Band → ℕ
-firstFault [] = 0
-firstFault (b ∷ bs) = orElse (faultOf b) (firstFault bs)
-
--- bit i of the marks for band i
-abbrev pub bitOf : Bool → ℕ
-bitOf true = 1
-bitOf false = 0
-
-unfoldable pub marksOf : List Band → ℕ
-marksOf [] = 0
-marksOf (b ∷ bs) = bitOf (markOf b) + 2 * marksOf bs
 
 -- the set of at most 16 bands
-unfoldable pub valuesOf : List Band → List Tenths
-valuesOf bands = map valueOf bands ++ replicate (16 - length bands) nought
-
 unfoldable pub setOf : List Band → BandSet
 setOf bands = record { values = valuesOf bands; marks = marksOf bands; len = length bands }
 
@@ -124,12 +77,8 @@ placed out at text = cond (fitsAt out at text) (take at out ++ (text ++ drop (at
 unfoldable pub wroteOf : List ℕ → ℕ → List ℕ → Wrote
 wroteOf out at text = cond (fitsAt out at text) (wrote.Bytes (length text)) (wrote.Refused NoRoom)
 
--- What the code carries between its parts. A field as the code reads it:
-unfoldable pub fieldOf : Found → Field
-fieldOf Found.nothing = record { next = 0; value = nought; limit = false; fault = 0 }
-fieldOf (found b next) = record { next = next; value = valueOf b; limit = markOf b; fault = faultOf b }
-
--- a request as the code reads it: where its key stands, and what it is answered; a line above 512 bytes is none
+-- What the code carries between its parts. A request as the code reads it: where its key stands, and what it is answered; a
+-- line above 512 bytes is none
 abbrev pub noReply : Reply
 noReply = record { next = 0; kind = A3; key = 0; len = 0; rated = Refused NotRequest }
 
@@ -145,36 +94,12 @@ replyAt s at = replyTo at (requestAt s at)
 unfoldable pub replyText : List ℕ → Reply → List ℕ
 replyText s r = cond (eqb (r .next) 0) noRequestText (ratedText (r .kind) (take (r .len) (drop (r .key) s)) (r .rated))
 
--- a figure has at most four digits
-abbrev pub Small : Figure → Type 0
-Small (Read m next) = m ≤ 9999
-Small Nothing = Unit {0}
-
-abbrev pub weightBy : Bool → ℕ → ℕ
-weightBy true w = w
-weightBy false w = 0
-
--- the bands of a line as the code gathers them
-pub record Holds (bands : List Band) (r : Gathered) : Type 0 where
-  pub count : r .count ≡ length bands
-  pub fault : r .fault ≡ firstFault bands
-  pub marks : length bands ≤ 16 → r .marks ≡ marksOf bands
-  pub values : length bands ≤ 16 → r .values ≡ valuesOf bands
-
--- what the code makes of them
+-- what the code makes of the bands that it gathered
 abbrev pub judgedIn : Kind → Gathered → Rated
 judgedIn kind r =
     cond (eqb (r .count) (bandsOf kind))
     (judgedBy (r .fault) (ratedOf kind (record { values = r .values; marks = r .marks; len = r .count })))
     (Refused BandCount)
-
-abbrev pub GatheredAt : Bands → Gathered → Type 0
-GatheredAt broken r = r .next ≡ 0
-GatheredAt (ended bands next) r = (r .next ≡ next) × Holds bands r
-
--- a field written at the front of a buffer: the bytes after it stay
-abbrev pub front : List ℕ → List ℕ → List ℕ
-front t l = t ++ drop (length t) l
 
 -- the key of a reply stands within the line
 pub record Keyed (s : List ℕ) (r : Reply) : Type 0 where

@@ -1,5 +1,3 @@
--- Request and answer lines, in the order of document 01: their texts, how a request is read, its answer, and whole runs.
-pub mod Texts
-pub mod Reading
+-- Lines, in the order of document 01: what a request is answered, and whole runs.
 pub mod Answers
 pub mod Blocks

@@ -1,14 +1,11 @@
 // Request lines and their answers: one line, or a block of lines.
 //
-// A line is read where it stands, from a position, in one pass; its answer is written straight into the caller's output.
-// Proved: reading is exact both ways (a line is a request exactly when it is the text of one, and means that one), every
-// answer is the defined text, and however an input is cut into blocks, the outputs joined are the answers of its lines.
-mod bands;
+// A line is read where it stands, from a position, in one pass (`request` reads its parts); its answer is written straight into
+// the caller's output (`answer` writes its fields). Proved: every answer is the defined text, and however an input is cut into
+// blocks, the outputs joined are the answers of its lines.
 mod blocks;
-mod bytes;
 mod lines;
 mod requests;
-mod texts;
 
 pub use blocks::Progress;
 pub use blocks::answer_block;

@@ -2,16 +2,51 @@
 use crate::requests::Reply;
 use crate::requests::no_reply;
 use crate::requests::reply_at;
-use crate::texts::put_reply;
-use crate::texts::reply_len;
+use answer::put_head;
+use answer::put_none;
+use answer::put_rated;
+use answer::rated_len;
 use quantity::Refusal;
 ghost use mathlib.Core.Path.{_≡_};
+ghost use Prim.Native.Nat.{_≤_};
+ghost use lib.ListN.{length};
+ghost use Rattle.answer.specs.Texts.{front};
 ghost use Rattle.line.specs.Answers.{Keyed, answerOf, replyText, placed, wroteOf};
 
 // How many bytes the answer took, or the one refusal of the call.
 pub enum Wrote {
     Bytes(usize),
     Refused(Refusal),
+}
+
+// How long an answer is.
+fn reply_len(s: &[u8], reply: Reply) -> usize
+    requires { ⌜ Keyed (now s) reply ⌝ }
+    ensures { λ r. ⌜ r ≡ length (replyText (now (s .entry)) reply) ⌝ }
+{
+    if reply.next == 0 {
+        return 7;
+    }
+    let rated = reply.rated;
+    3 + reply.len + rated_len(rated)
+}
+
+// The whole answer, at the front of the tail that is lent.
+fn put_reply(s: &[u8], reply: Reply, out: &mut [u8])
+    requires { ⌜ Keyed (now s) reply ⌝ }
+    requires { ⌜ length (replyText (now s) reply) ≤ length (now out) ⌝ }
+    ensures { λ r. ⌜ now (out .exit) ≡ front (replyText (now (s .entry)) reply) (now (out .entry)) ⌝ }
+{
+    if reply.next == 0 {
+        put_none(out);
+        return;
+    }
+    let kind = reply.kind;
+    let len = reply.len;
+    put_head(kind, s, reply.key, len, out);
+    let rest = 3 + len;
+    let rated = reply.rated;
+    put_rated(rated, &mut out[rest..]);
 }
 
 // Writes an answer at an offset of the output, if there is room.

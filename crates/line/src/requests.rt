@@ -1,24 +1,21 @@
 // Requests: kind, key and bands, and what they are answered.
-use crate::bands::Gathered;
-use crate::bands::bands_at;
-use crate::bytes::byte;
-use crate::bytes::is_key;
 use quantity::BandSet;
 use quantity::Refusal;
 use rating::Kind;
 use rating::Rated;
 use rating::rate;
+use request::Gathered;
+use request::Named;
+use request::bands_at;
+use request::byte;
+use request::key_span;
+use request::kind_at;
 ghost use mathlib.Core.Path.{_≡_};
-ghost use Prim.Native.Nat.{_+_, _≤_, _<_};
+ghost use Prim.Native.Nat.{_+_, _<_};
 ghost use lib.ListN.{length, drop};
 ghost use Rattle.rating.specs.Kinds.{bandsOf};
-ghost use Rattle.line.specs.Reading.{kindAt, keySpan, withKey};
+ghost use Rattle.request.specs.Reading.{keySpan, withKey};
 ghost use Rattle.line.specs.Answers.{noReply, replyAt, replyTo, judgedIn};
-
-pub enum Named {
-    Is(Kind),
-    Nothing,
-}
 
 // A request: the position after it (0 for none), its kind, where its key stands and how long it is, and what it is answered.
 pub struct Reply {
@@ -27,45 +24,6 @@ pub struct Reply {
     pub key: usize,
     pub len: usize,
     pub rated: Rated,
-}
-
-// The kind at a position.
-fn kind_at(s: &[u8], at: usize) -> Named
-    ensures { λ r. ⌜ r ≡ kindAt (now (s .entry)) at ⌝ }
-{
-    let b = byte(s, at);
-    if b == 65 {
-        let d = byte(s, at + 1);
-        if d == 51 {
-            return Named::Is(Kind::A3);
-        }
-        if d == 49 {
-            return Named::Is(Kind::A1);
-        }
-        return Named::Nothing;
-    }
-    if b == 73 {
-        let d = byte(s, at + 1);
-        if d == 51 {
-            return Named::Is(Kind::I3);
-        }
-        if d == 49 {
-            return Named::Is(Kind::I1);
-        }
-    }
-    Named::Nothing
-}
-
-// How many bytes of a key stand from a position on.
-fn key_span(s: &[u8], at: usize) -> usize
-    requires { ⌜ at ≤ length (now s) ⌝ }
-    ensures { λ r. ⌜ r ≡ keySpan (drop at (now (s .entry))) ⌝ }
-{
-    let mut n = 0;
-    while is_key(byte(s, at + n)) {
-        n += 1;
-    }
-    n
 }
 
 // The number of bands of a kind.

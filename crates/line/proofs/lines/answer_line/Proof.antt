@@ -8,15 +8,15 @@ use Rattle.line.proofs.lines.answer_line.Lts as lts
 use Rattle.line.proofs.lines.answer_at.Reads as answer-at-reads
 use Rattle.line.proofs.lines.line_reply.Reads as line-reply-reads
 
--- src/lines.rt:52:9
+-- src/lines.rt:87:9
 line-reply-requires : tie.Need-line-reply-requires
 line-reply-requires c κs = search needs
 
--- src/lines.rt:53:5
+-- src/lines.rt:88:5
 answer-at-requires : tie.Need-answer-at-requires
 answer-at-requires c κs = search needs
 
--- src/lines.rt:48:1
+-- src/lines.rt:83:1
 returns : tie.Need-returns
 returns c =
     let a = c .before .before .before .before .before .before .before .args in
@@ -24,7 +24,7 @@ returns c =
     let d = c .before .before .answer-at .ensures in
     (d .0 ∙ ap (wroteOf (a .out .now) (a .at)) e, d .1 ∙ ap (placed (a .out .now) (a .at)) e)
 
--- src/lines.rt:48:1
+-- src/lines.rt:83:1
 same-length : tie.Need-same-length
 same-length c = search needs
 

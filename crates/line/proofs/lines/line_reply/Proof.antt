@@ -10,22 +10,22 @@ use Rattle.line.proofs.lines.line_reply.Lts as lts
 use Rattle.line.proofs.requests.no_reply.Reads as no-reply-reads
 use Rattle.line.proofs.requests.reply_at.Reads as reply-at-reads
 
--- src/lines.rt:39:9
+-- src/lines.rt:74:9
 reply-at-requires : tie.Need-reply-at-requires
 reply-at-requires c κs = search needs
 
--- src/lines.rt:41:9
+-- src/lines.rt:76:9
 returns : tie.Need-returns
 returns c =
     let a = c .before .before .before .before .args in
     let r = c .before .before .reply-at in
     (line-whole (a .line .now) (r .result) (r .ensures) (c .if1 .taken), reply-keyed (a .line .now) 0 (r .result) (r .ensures))
 
--- src/lines.rt:43:5
+-- src/lines.rt:78:5
 no-reply-requires : tie.Need-no-reply-requires
 no-reply-requires c κs = search needs
 
--- src/lines.rt:35:1
+-- src/lines.rt:70:1
 returns-2 : tie.Need-returns-2
 returns-2 c =
     let a = c .before .before .before .before .before .args in

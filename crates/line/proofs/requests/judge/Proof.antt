@@ -1,7 +1,7 @@
 -- `line::requests::judge` meets its contract: the count, the first refusal of a band, or the sheet. Assumes nothing.
 use borrow.Author.Needs.{needs}
 use mathlib.Core.Path.{_∙_}
-use Rattle.line.proofs.Readers.{judge-count, judge-missing, judge-range, judge-sheet}
+use Rattle.line.proofs.Replies.{judge-count, judge-missing, judge-range, judge-sheet}
 use Rattle.line.proofs.requests.judge.Statement.{statement}
 use Rattle.line.proofs.requests.judge.Tie as tie
 

@@ -1,35 +1,35 @@
 use mathlib.Core.Path.{sym, _∙_}
 use Prim.Native.Nat.{_+_}
 use native.Mathlib.Omega.{arith}
-use Rattle.line.proofs.Leaves.{inside-byte}
+use Rattle.request.proofs.Leaves.{inside-byte}
 use Rattle.line.proofs.Replies.{kind-inside, no-kind, no-tab, some-kind}
 use borrow.Author.Needs.{needs}
 use Rattle.line.proofs.requests.reply_at.Statement.{statement}
 use Rattle.line.proofs.requests.reply_at.Tie as tie
 use Rattle.line.proofs.requests.reply_at.Reads as reads
 use Rattle.line.proofs.requests.reply_at.Lts as lts
-use Rattle.line.proofs.bytes.byte.Reads as byte-reads
+use Rattle.request.proofs.byte.Reads as byte-reads
 use Rattle.line.proofs.requests.keyed.Reads as keyed-reads
-use Rattle.line.proofs.requests.kind_at.Reads as kind-at-reads
+use Rattle.request.proofs.kind_at.Reads as kind-at-reads
 use Rattle.line.proofs.requests.no_reply.Reads as no-reply-reads
 
--- src/requests.rt:159:9
+-- src/requests.rt:117:9
 kind-at-requires : tie.Need-kind-at-requires
 kind-at-requires c κs = search needs
 
--- src/requests.rt:161:27
+-- src/requests.rt:119:27
 enum-told : tie.Need-enum-told
 enum-told c = search needs
 
--- src/requests.rt:161:27
+-- src/requests.rt:119:27
 no-reply-requires : tie.Need-no-reply-requires
 no-reply-requires c κs = search needs
 
--- src/requests.rt:162:19
+-- src/requests.rt:120:19
 enum-known-named : tie.Need-enum-known-named
 enum-known-named c = search needs
 
--- src/requests.rt:163:24
+-- src/requests.rt:121:24
 add-byte : tie.Need-add-byte
 add-byte c =
     let a = c .before .before .before .before .before .args in
@@ -37,15 +37,15 @@ add-byte c =
     let k = c .before .before .before .kind-at in
     omega (arith, kind-inside (a .s .now) (a .at) (w .0 .0) (sym (k .ensures) ∙ w .1))
 
--- src/requests.rt:163:16
+-- src/requests.rt:121:16
 byte-requires : tie.Need-byte-requires
 byte-requires c κs = search needs
 
--- src/requests.rt:164:17
+-- src/requests.rt:122:17
 no-reply-requires-2 : tie.Need-no-reply-requires-2
 no-reply-requires-2 c κs = search needs
 
--- src/requests.rt:164:17
+-- src/requests.rt:122:17
 returns : tie.Need-returns
 returns c =
     let a = c .before .before .before .before .before .before .before .before .args in
@@ -53,7 +53,7 @@ returns c =
     let k = c .before .before .before .before .before .before .kind-at in
     c .no-reply2 .ensures ∙ no-tab (a .s .now) (a .at) (k .result) (w .0 .0) (c .before .before .byte .result) (k .ensures) (w .1) (c .before .before .byte .ensures) (c .before .if1 .taken)
 
--- src/requests.rt:166:13
+-- src/requests.rt:124:13
 keyed-requires : tie.Need-keyed-requires
 keyed-requires c κs =
     let a = c .before .before .before .before .before .before .before .args in
@@ -61,14 +61,14 @@ keyed-requires c κs =
     let k = c .before .before .before .before .before .kind-at in
     inside-byte (a .s .now) (a .at + 2) (c .before .byte .result) (c .before .byte .ensures) (omega arith)
 
--- src/requests.rt:156:1
+-- src/requests.rt:114:1
 returns-2 : tie.Need-returns-2
 returns-2 c =
     let a = c .before .before .before .before .before .args in
     let k = c .before .before .before .kind-at in
     c .no-reply .ensures ∙ no-kind (a .s .now) (a .at) (k .result) (k .ensures) (c .before .enum-told .given .1)
 
--- src/requests.rt:156:1
+-- src/requests.rt:114:1
 returns-3 : tie.Need-returns-3
 returns-3 c =
     let a = c .before .before .before .before .before .before .before .before .args in

@@ -1,0 +1,96 @@
+use mathlib.Core.Path.{_≡_, refl, sym, _∙_, ap}
+use mathlib.Core.List.{List, [], _∷_, _++_}
+use native.Mathlib.Omega.{arith}
+use lib.ListN.{length, take, drop, length-set, length-take}
+use Rattle.answer.specs.Texts.{kindText, front}
+use Rattle.answer.proofs.Fronts.{front-length, tail-within, tail-length, tail-home, tail-same}
+use Rattle.answer.proofs.Writers.{stored1, stored2, stored3}
+use borrow.Author.Needs.{needs}
+use Rattle.answer.proofs.texts.put_head.Statement.{statement}
+use Rattle.answer.proofs.texts.put_head.Tie as tie
+use Rattle.answer.proofs.texts.put_head.Reads as reads
+use Rattle.answer.proofs.texts.put_head.Lts as lts
+use Rattle.answer.proofs.texts.letters_of.Reads as letters-of-reads
+use Rattle.answer.proofs.texts.put_key.Reads as put-key-reads
+
+-- src/texts.rt:153:9
+letters-of-requires : tie.Need-letters-of-requires
+letters-of-requires c κs = search needs
+
+-- src/texts.rt:154:5
+slice-write-out : tie.Need-slice-write-out
+slice-write-out c = search needs
+
+-- src/texts.rt:155:5
+slice-write-out-2 : tie.Need-slice-write-out-2
+slice-write-out-2 c = simp length-set (omega arith)
+
+-- src/texts.rt:156:5
+slice-write-out-3 : tie.Need-slice-write-out-3
+slice-write-out-3 c = simp length-set (omega arith)
+
+-- src/texts.rt:157:26
+sub-put-key : tie.Need-sub-put-key
+sub-put-key c =
+    let a = c .before .before .before .args in
+    let r = c .letters-of .result in
+    let t : List _ = r .0 ∷ r .1 ∷ 9 ∷ [] in
+    let e = stored3 (a .out .now) (r .0) (r .1) 9 (omega (arith, c .before .before .before .pre .1)) in
+    tail-within t (a .out .now) 3 e refl (omega (arith, c .before .before .before .pre .1))
+
+-- src/texts.rt:157:26
+part-put-key-start : tie.Need-part-put-key-start
+part-put-key-start c =
+    let a = c .before .before .before .args in
+    let r = c .letters-of .result in
+    let t : List _ = r .0 ∷ r .1 ∷ 9 ∷ [] in
+    let e = stored3 (a .out .now) (r .0) (r .1) 9 (omega (arith, c .before .before .before .pre .1)) in
+    tail-within t (a .out .now) 3 e refl (omega (arith, c .before .before .before .pre .1))
+
+-- src/texts.rt:157:26
+part-put-key-end : tie.Need-part-put-key-end
+part-put-key-end c = search needs
+
+-- src/texts.rt:157:5
+put-key-requires : tie.Need-put-key-requires
+put-key-requires c κs =
+    let a = c .before .before .before .before .args in
+    let r = c .before .letters-of .result in
+    let t : List _ = r .0 ∷ r .1 ∷ 9 ∷ [] in
+    let e = stored3 (a .out .now) (r .0) (r .1) 9 (omega (arith, c .before .before .before .before .pre .1)) in
+    (c .before .before .before .before .pre .0, omega (arith, c .before .before .before .before .pre .1, tail-length t (a .out .now) 3 e refl (omega (arith, c .before .before .before .before .pre .1))))
+
+-- src/texts.rt:148:1
+returns : tie.Need-returns
+returns c =
+    let a = c .before .before .before .before .before .before .before .args in
+    let r = c .before .before .before .before .letters-of .result in
+    let t : List _ = r .0 ∷ r .1 ∷ 9 ∷ [] in
+    let e = stored3 (a .out .now) (r .0) (r .1) 9 (omega (arith, c .before .before .before .before .before .before .before .pre .1)) in
+    tail-home t (a .out .now) 3 e refl (omega (arith, c .before .before .before .before .before .before .before .pre .1)) (take (a .len) (drop (a .key) (a .s .now))) (c .before .before .put-key .ensures)
+    ∙ ap (λ k. front (k ++ (9 ∷ take (a .len) (drop (a .key) (a .s .now)))) (a .out .now)) (sym (c .before .before .before .before .letters-of .ensures))
+
+-- src/texts.rt:148:1
+same-length : tie.Need-same-length
+same-length c =
+    let a = c .before .before .before .before .before .before .before .args in
+    let r = c .before .before .before .before .letters-of .result in
+    let t : List _ = r .0 ∷ r .1 ∷ 9 ∷ [] in
+    let e = stored3 (a .out .now) (r .0) (r .1) 9 (omega (arith, c .before .before .before .before .before .before .before .pre .1)) in
+    tail-same t (a .out .now) 3 e refl (omega (arith, c .before .before .before .before .before .before .before .pre .1)) (take (a .len) (drop (a .key) (a .s .now))) (c .before .before .put-key .ensures)
+    (omega (arith, c .before .before .before .before .before .before .before .pre .1, length-take (a .len) (drop (a .key) (a .s .now))))
+
+pub put-head-spec : {M : Type 1} → statement M
+put-head-spec =
+    tie.close
+    (tie.spec
+    letters-of-requires
+    slice-write-out
+    slice-write-out-2
+    slice-write-out-3
+    sub-put-key
+    part-put-key-start
+    part-put-key-end
+    put-key-requires
+    same-length
+    returns)

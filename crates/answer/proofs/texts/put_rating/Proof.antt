@@ -1,0 +1,102 @@
+use mathlib.Core.Path.{_≡_, refl, sym, _∙_, ap}
+use mathlib.Core.List.{List, [], _∷_, _++_}
+use Prim.Native.Nat.{_+_}
+use native.Mathlib.Omega.{arith}
+use lib.ListN.{length, take, drop, length-set, length-take, length-append}
+use Rattle.answer.specs.Texts.{front, numberText, others, firstFields}
+use Rattle.answer.proofs.Fronts.{front-length, front-more, tail-within, tail-length, tail-home, tail-same}
+use Rattle.quantity.proofs.Rim.{back}
+use Rattle.answer.proofs.Writers.{others-length, field-front}
+use borrow.Author.Needs.{needs}
+use Rattle.answer.proofs.texts.put_rating.Statement.{statement}
+use Rattle.answer.proofs.texts.put_rating.Tie as tie
+use Rattle.answer.proofs.texts.put_rating.Reads as reads
+use Rattle.answer.proofs.texts.put_rating.Lts as lts
+use Rattle.answer.proofs.texts.put_first.Reads as put-first-reads
+use Rattle.answer.proofs.texts.put_number.Reads as put-number-reads
+
+-- src/texts.rt:221:9
+put-number-requires : tie.Need-put-number-requires
+put-number-requires c κs =
+    let a = c .before .before .before .before .args in
+    let sh = a .sheet in
+    let l = a .out .now in
+    let h = others-length (numberText (sh .rating .0)) (firstFields sh) in
+    let q = c .before .before .before .before .pre in
+    rw (back (sh .rating .0) (c .struct-told .given .0 .1)) (omega arith)
+
+-- src/texts.rt:222:22
+sub-put-first : tie.Need-sub-put-first
+sub-put-first c =
+    let a = c .before .before .before .before .before .before .before .args in
+    let sh = a .sheet in
+    let l = a .out .now in
+    let h = others-length (numberText (sh .rating .0)) (firstFields sh) in
+    let q = c .before .before .before .before .before .before .before .pre in
+    let d = c .before .before .put-number in
+    let b = back (sh .rating .0) (c .before .before .before .struct-told .given .0 .1) in
+    let e = d .ensures .1 ∙ ap (λ z. front (9 ∷ numberText z) l) b in
+    let k = d .ensures .0 ∙ ap (λ z. 1 + length (numberText z)) b in
+    tail-within (9 ∷ numberText (sh .rating .0)) l (d .result) e (omega arith) (omega arith)
+
+-- src/texts.rt:222:22
+part-put-first-start : tie.Need-part-put-first-start
+part-put-first-start c =
+    let a = c .before .before .before .before .before .before .before .args in
+    let sh = a .sheet in
+    let l = a .out .now in
+    let h = others-length (numberText (sh .rating .0)) (firstFields sh) in
+    let q = c .before .before .before .before .before .before .before .pre in
+    let d = c .before .before .put-number in
+    let b = back (sh .rating .0) (c .before .before .before .struct-told .given .0 .1) in
+    let e = d .ensures .1 ∙ ap (λ z. front (9 ∷ numberText z) l) b in
+    let k = d .ensures .0 ∙ ap (λ z. 1 + length (numberText z)) b in
+    tail-within (9 ∷ numberText (sh .rating .0)) l (d .result) e (omega arith) (omega arith)
+
+-- src/texts.rt:222:22
+part-put-first-end : tie.Need-part-put-first-end
+part-put-first-end c = search needs
+
+-- src/texts.rt:222:5
+put-first-requires : tie.Need-put-first-requires
+put-first-requires c κs =
+    let a = c .before .before .before .before .before .before .before .before .args in
+    let sh = a .sheet in
+    let l = a .out .now in
+    let h = others-length (numberText (sh .rating .0)) (firstFields sh) in
+    let q = c .before .before .before .before .before .before .before .before .pre in
+    let d = c .before .before .before .put-number in
+    let b = back (sh .rating .0) (c .before .before .before .before .struct-told .given .0 .1) in
+    let e = d .ensures .1 ∙ ap (λ z. front (9 ∷ numberText z) l) b in
+    let k = d .ensures .0 ∙ ap (λ z. 1 + length (numberText z)) b in
+    omega (arith, tail-length (9 ∷ numberText (sh .rating .0)) l (d .result) e (omega arith) (omega arith))
+
+-- src/texts.rt:216:1
+returns : tie.Need-returns
+returns c =
+    let a = c .before .before .before .before .before .before .before .before .before .before .before .args in
+    let sh = a .sheet in
+    let l = a .out .now in
+    let h = others-length (numberText (sh .rating .0)) (firstFields sh) in
+    let q = c .before .before .before .before .before .before .before .before .before .before .before .pre in
+    let d = c .before .before .before .before .before .before .put-number in
+    let b = back (sh .rating .0) (c .before .before .before .before .before .before .before .struct-told .given .0 .1) in
+    let e = d .ensures .1 ∙ ap (λ z. front (9 ∷ numberText z) l) b in
+    let k = d .ensures .0 ∙ ap (λ z. 1 + length (numberText z)) b in
+    field-front (numberText (sh .rating .0)) (firstFields sh) l (tail-home (9 ∷ numberText (sh .rating .0)) l (d .result) e (omega arith) (omega arith) (others (firstFields sh)) (c .before .before .put-first .ensures))
+
+-- src/texts.rt:216:1
+same-length : tie.Need-same-length
+same-length c = search needs
+
+pub put-rating-spec : {M : Type 1} → statement M
+put-rating-spec =
+    tie.close
+    (tie.spec
+    put-number-requires
+    sub-put-first
+    part-put-first-start
+    part-put-first-end
+    put-first-requires
+    same-length
+    returns)

@@ -1,0 +1,89 @@
+use mathlib.Core.Path.{_≡_, refl, sym, _∙_, ap}
+use mathlib.Core.List.{List, [], _∷_, _++_}
+use Prim.Native.Nat.{_+_}
+use native.Mathlib.Omega.{arith}
+use lib.ListN.{length, take, drop, length-set, length-take, length-append}
+use Rattle.answer.specs.Texts.{front, others, ratingFields, sheetFields}
+use Rattle.answer.proofs.Fronts.{front-length, front-more, tail-within, tail-length, tail-home, tail-same}
+use Rattle.answer.proofs.Writers.{stored2, others-length, field-front}
+use borrow.Author.Needs.{needs}
+use Rattle.answer.proofs.texts.put_sheet.Statement.{statement}
+use Rattle.answer.proofs.texts.put_sheet.Tie as tie
+use Rattle.answer.proofs.texts.put_sheet.Reads as reads
+use Rattle.answer.proofs.texts.put_sheet.Lts as lts
+use Rattle.answer.proofs.texts.put_rating.Reads as put-rating-reads
+
+-- src/texts.rt:230:5
+slice-write-out : tie.Need-slice-write-out
+slice-write-out c =
+    let h = others-length (48 ∷ []) (ratingFields (c .before .args .sheet)) in
+    omega (arith, c .before .pre)
+
+-- src/texts.rt:231:5
+slice-write-out-2 : tie.Need-slice-write-out-2
+slice-write-out-2 c =
+    let h = others-length (48 ∷ []) (ratingFields (c .before .args .sheet)) in
+    simp length-set (omega (arith, c .before .pre))
+
+-- src/texts.rt:232:23
+sub-put-rating : tie.Need-sub-put-rating
+sub-put-rating c =
+    let a = c .before .args in
+    let l = a .out .now in
+    let h = others-length (48 ∷ []) (ratingFields (a .sheet)) in
+    let q = c .before .pre in
+    let e = stored2 l 9 48 (omega arith) in
+    tail-within (9 ∷ 48 ∷ []) l 2 e refl (omega arith)
+
+-- src/texts.rt:232:23
+part-put-rating-start : tie.Need-part-put-rating-start
+part-put-rating-start c =
+    let a = c .before .args in
+    let l = a .out .now in
+    let h = others-length (48 ∷ []) (ratingFields (a .sheet)) in
+    let q = c .before .pre in
+    let e = stored2 l 9 48 (omega arith) in
+    tail-within (9 ∷ 48 ∷ []) l 2 e refl (omega arith)
+
+-- src/texts.rt:232:23
+part-put-rating-end : tie.Need-part-put-rating-end
+part-put-rating-end c = search needs
+
+-- src/texts.rt:232:5
+put-rating-requires : tie.Need-put-rating-requires
+put-rating-requires c κs =
+    let a = c .before .before .args in
+    let l = a .out .now in
+    let h = others-length (48 ∷ []) (ratingFields (a .sheet)) in
+    let q = c .before .before .pre in
+    let e = stored2 l 9 48 (omega arith) in
+    omega (arith, tail-length (9 ∷ 48 ∷ []) l 2 e refl (omega arith))
+
+-- src/texts.rt:226:1
+returns : tie.Need-returns
+returns c =
+    let a = c .before .before .before .before .before .args in
+    let l = a .out .now in
+    let h = others-length (48 ∷ []) (ratingFields (a .sheet)) in
+    let q = c .before .before .before .before .before .pre in
+    let e = stored2 l 9 48 (omega arith) in
+    field-front (48 ∷ []) (ratingFields (a .sheet)) l (tail-home (9 ∷ 48 ∷ []) l 2 e refl (omega arith) (others (ratingFields (a .sheet))) (c .before .before .put-rating .ensures))
+
+-- src/texts.rt:226:1
+same-length : tie.Need-same-length
+same-length c =
+    let a = c .before .before .before .before .before .args in
+    ap length (returns c) ∙ front-length (others (sheetFields (a .sheet))) (a .out .now) (c .before .before .before .before .before .pre)
+
+pub put-sheet-spec : {M : Type 1} → statement M
+put-sheet-spec =
+    tie.close
+    (tie.spec
+    slice-write-out
+    slice-write-out-2
+    sub-put-rating
+    part-put-rating-start
+    part-put-rating-end
+    put-rating-requires
+    same-length
+    returns)

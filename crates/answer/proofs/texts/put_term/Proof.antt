@@ -1,0 +1,86 @@
+use mathlib.Core.Path.{_≡_, refl, sym, _∙_, ap}
+use mathlib.Core.List.{List, [], _∷_, _++_}
+use Prim.Native.Nat.{_+_}
+use native.Mathlib.Omega.{arith}
+use lib.ListN.{length, take, drop, length-set, length-take, length-append}
+use Rattle.answer.specs.Texts.{front, numberText, termText}
+use Rattle.answer.proofs.Fronts.{front-length, front-more, tail-within, tail-length, tail-home, tail-same}
+use Rattle.quantity.proofs.Rim.{back}
+use Rattle.answer.proofs.Writers.{stored2}
+use borrow.Author.Needs.{needs}
+use Rattle.answer.proofs.texts.put_term.Statement.{statement}
+use Rattle.answer.proofs.texts.put_term.Tie as tie
+use Rattle.answer.proofs.texts.put_term.Reads as reads
+use Rattle.answer.proofs.texts.put_term.Lts as lts
+use Rattle.answer.proofs.texts.put_number.Reads as put-number-reads
+
+-- src/texts.rt:111:21
+enum-known-term : tie.Need-enum-known-term
+enum-known-term c = search needs
+
+-- src/texts.rt:111:27
+put-number-requires : tie.Need-put-number-requires
+unfolding termText
+put-number-requires c κs =
+    let w = c .before .before .before .term .given in
+    let a = c .before .before .before .before .before .before .args in
+    rw (back (w .0 .0 .0) (c .struct-told .given .0 .1)) (omega (arith, c .before .before .before .before .before .before .pre, ap (λ t. length (termText t)) (w .1)))
+
+-- src/texts.rt:113:13
+enum-told : tie.Need-enum-told
+enum-told c = search needs
+
+-- src/texts.rt:113:13
+slice-write-out : tie.Need-slice-write-out
+slice-write-out c = search needs
+
+-- src/texts.rt:114:13
+slice-write-out-2 : tie.Need-slice-write-out-2
+unfolding termText
+slice-write-out-2 c =
+    let e = c .enum-told .given .1 in
+    simp length-set (omega (arith, c .before .before .before .pre, ap (λ t. length (termText t)) e))
+
+-- src/texts.rt:105:1
+returns : tie.Need-returns
+unfolding termText
+returns c =
+    let w = c .before .before .before .before .before .before .term .given in
+    let a = c .before .before .before .before .before .before .before .before .before .args in
+    let d = c .before .before .put-number in
+    let b = back (w .0 .0 .0) (c .before .before .before .struct-told .given .0 .1) in (
+      d .ensures .0 ∙ ap (λ z. 1 + length (numberText z)) b ∙ ap (λ t. 1 + length (termText t)) (sym (w .1)),
+      d .ensures .1 ∙ ap (λ z. front (9 ∷ numberText z) (a .out .now)) b ∙ ap (λ t. front (9 ∷ termText t) (a .out .now)) (sym (w .1)),
+    )
+
+-- src/texts.rt:105:1
+returns-2 : tie.Need-returns-2
+unfolding termText
+returns-2 c =
+    let e = c .enum-told .given .1 in
+    let a = c .before .before .before .args in (
+      ap (λ t. 1 + length (termText t)) (sym e),
+      stored2 (a .out .now) 9 45 (omega (arith, c .before .before .before .pre, ap (λ t. length (termText t)) e)) ∙ ap (λ t. front (9 ∷ termText t) (a .out .now)) (sym e),
+    )
+
+-- src/texts.rt:105:1
+same-length : tie.Need-same-length
+same-length c = search needs
+
+-- src/texts.rt:105:1
+same-length-2 : tie.Need-same-length-2
+same-length-2 c = search needs
+
+pub put-term-spec : {M : Type 1} → statement M
+put-term-spec =
+    tie.close
+    (tie.spec
+    enum-known-term
+    put-number-requires
+    enum-told
+    slice-write-out
+    slice-write-out-2
+    same-length
+    returns
+    same-length-2
+    returns-2)

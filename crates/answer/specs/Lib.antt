@@ -1,0 +1,2 @@
+-- Answer lines: their texts.
+pub mod Texts

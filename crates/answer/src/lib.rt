@@ -1,0 +1,10 @@
+// The texts of answers, written straight into a lent output.
+//
+// Each field writes itself at the front of a tail and lends on what is behind it. Proved: what stands there is the defined text,
+// the bytes after it keep their contents, and the lengths are those of the texts.
+mod texts;
+
+pub use texts::put_head;
+pub use texts::put_none;
+pub use texts::put_rated;
+pub use texts::rated_len;

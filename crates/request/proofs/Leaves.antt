@@ -1,0 +1,111 @@
+-- Single bytes: a byte that is not 0 stands within the line; a digit is its value above 48. Assumes nothing.
+use mathlib.Core.Path.{_≡_, refl, sym, _∙_, ap, subst}
+use mathlib.Core.Bool.{Bool, true, false, cond, _&&_, _||_}
+use mathlib.Core.List.{List, [], _∷_}
+use Prim.Native.Nat.{ℕ, zero, suc, _+_, _-_, _≤_, _<_, suc-le-suc}
+use native.Mathlib.Omega.{arith}
+use borrow.Author.Tests.{le-leb, lt-leb, leb-true, leb-false, eq-eqb, ne-eqb, eqb-true}
+use lib.Dec.{leb, eqb, T}
+use lib.ListN.{length, getD}
+use Rattle.request.specs.Texts.{between, keyByte}
+use Rattle.request.specs.Reading.{byteAt, digitOf}
+
+pub inside : (s : List ℕ) (i : ℕ) → 0 < byteAt s i → i < length s
+inside [] i h = absurd (omega arith)
+inside (b ∷ s) zero h = omega arith
+inside (b ∷ s) (suc i) h = suc-le-suc (inside s i h)
+
+pub digit-yes : (b : ℕ) → 48 ≤ b → b ≤ 57 → b - 48 ≡ digitOf b
+unfolding digitOf
+digit-yes b h k = simp (le-leb 48 b h, le-leb b 57 k)
+
+pub digit-low : (b : ℕ) → b < 48 → 10 ≡ digitOf b
+unfolding digitOf
+digit-low b h = simp (lt-leb 48 b h)
+
+pub digit-high : (b : ℕ) → 57 < b → 10 ≡ digitOf b
+unfolding digitOf
+digit-high b h = go (leb 48 b)
+  where
+    go : (x : Bool) → 10 ≡ cond (x && leb b 57) (b - 48) 10
+    go true = simp (lt-leb b 57 h)
+    go false = refl
+
+-- what the value of a digit says of its byte
+pub record Digit (b : ℕ) : Type 0 where
+  pub is : b ≡ 48 + digitOf b
+  pub small : digitOf b < 10
+
+pub digit-read : (b : ℕ) → digitOf b < 10 → Digit b
+unfolding digitOf
+digit-read b h = go (leb 48 b) (leb b 57) refl refl h
+  where
+    go : (x y : Bool) → leb 48 b ≡ x → leb b 57 ≡ y → cond (x && y) (b - 48) 10 < 10 → Digit b
+    go true true p q k =
+        let e : b - 48 ≡ digitOf b = digit-yes b (leb-true 48 b p) (leb-true b 57 q) in
+        record { is = omega (arith, leb-true 48 b p); small = omega arith }
+    go true false p q k = absurd (omega arith)
+    go false true p q k = absurd (omega arith)
+    go false false p q k = absurd (omega arith)
+
+pub digit-made : (d : ℕ) → d < 10 → digitOf (48 + d) ≡ d
+digit-made d h = sym (digit-yes (48 + d) (omega arith) (omega arith)) ∙ omega arith
+
+pub digit-most : (b : ℕ) → digitOf b ≤ 10
+unfolding digitOf
+digit-most b = go (leb 48 b && leb b 57) (leb 48 b) (leb b 57) refl refl refl
+  where
+    go : (t x y : Bool) → leb 48 b ≡ x → leb b 57 ≡ y → t ≡ x && y → cond (leb 48 b && leb b 57) (b - 48) 10 ≤ 10
+    go t true true p q r = rw (p, q) (omega (arith, leb-true b 57 q))
+    go t true false p q r = rw (p, q) (omega arith)
+    go t false y p q r = rw p (omega arith)
+
+pub inside-byte : (s : List ℕ) (at b : ℕ) → b ≡ byteAt s at → 0 < b → at < length s
+inside-byte s at b e h = inside s at (omega arith)
+
+pub inside-digit : (s : List ℕ) (at b d : ℕ) → b ≡ byteAt s at → d ≡ digitOf b → d < 10 → at < length s
+inside-digit s at b d e f h = inside-byte s at b e (omega (arith, digit-read b (omega arith)))
+
+-- the bytes of a key, by the tests of the code in order
+module _ (b : ℕ) where
+  pub key-hyphen : b ≡ 45 → true ≡ keyByte b
+  unfolding keyByte
+  key-hyphen h = simp (eq-eqb b 45 h)
+
+  pub key-low : (b ≡ 45 → ⊥) → b < 48 → false ≡ keyByte b
+  unfolding keyByte
+  key-low f h = simp (ne-eqb b 45 f, lt-leb 48 b h, lt-leb 65 b (omega arith), lt-leb 97 b (omega arith))
+
+  pub key-digit : (b ≡ 45 → ⊥) → 48 ≤ b → b ≤ 57 → true ≡ keyByte b
+  unfolding keyByte
+  key-digit f h k = simp (ne-eqb b 45 f, le-leb 48 b h, le-leb b 57 k)
+
+  pub key-middle : 57 < b → b < 65 → false ≡ keyByte b
+  unfolding keyByte
+  key-middle h k = simp (ne-eqb b 45 (omega arith), le-leb 48 b (omega arith), lt-leb b 57 h, lt-leb 65 b k, lt-leb 97 b (omega arith))
+
+  pub key-capital : 65 ≤ b → b ≤ 90 → true ≡ keyByte b
+  unfolding keyByte
+  key-capital h k = simp (ne-eqb b 45 (omega arith), le-leb 48 b (omega arith), lt-leb b 57 (omega arith), le-leb 65 b h, le-leb b 90 k)
+
+  pub key-between : 90 < b → b < 97 → false ≡ keyByte b
+  unfolding keyByte
+  key-between h k =
+      simp (ne-eqb b 45 (omega arith), le-leb 48 b (omega arith), lt-leb b 57 (omega arith), le-leb 65 b (omega arith), lt-leb b 90 h, lt-leb 97 b k)
+
+  pub key-small : 97 ≤ b → leb b 122 ≡ keyByte b
+  unfolding keyByte
+  key-small h =
+      simp (ne-eqb b 45 (omega arith), le-leb 48 b (omega arith), lt-leb b 57 (omega arith), le-leb 65 b (omega arith), lt-leb b 90 (omega arith), le-leb 97 b h)
+
+-- a byte of a key is neither 0 nor a tab nor a line feed
+pub key-range : (b : ℕ) → keyByte b ≡ true → 45 ≤ b
+unfolding keyByte
+key-range b e = go (leb 45 b) refl
+  where
+    go : (t : Bool) → leb 45 b ≡ t → 45 ≤ b
+    go true p = leb-true 45 b p
+    go false p =
+        let h : b < 45 = leb-false 45 b p in
+        let k : _≡_ {A = Bool} false true = key-low b (omega arith) (omega arith) ∙ e in
+        absurd (subst T (sym k) tt)

@@ -1,0 +1,62 @@
+-- Document 01, "Request and answer lines": the text of a request, as a list of bytes.
+use mathlib.Core.Bool.{Bool, true, false, _&&_, _||_}
+use mathlib.Core.List.{List, [], _∷_, _++_, map}
+use mathlib.Core.Path.{_≡_}
+use Prim.Native.Nat.{ℕ, zero, suc, _+_, _/_, _%_, _≤_}
+use lib.Dec.{leb, eqb}
+use lib.IntN.{ℤ, pos, negsuc}
+use lib.ListN.{length}
+use Rattle.laws.specs.Parts.{P, N}
+use Rattle.rating.specs.declared.kinds.Kind.{Kind}
+use Rattle.answer.specs.Texts.{lineText, decimal, kindText}
+
+-- "Key: 1 to 32 of ASCII letters, digits, hyphen."
+abbrev pub between : ℕ → ℕ → ℕ → Bool
+between lo hi b = leb lo b && leb b hi
+
+unfoldable pub keyByte : ℕ → Bool
+keyByte b = eqb b 45 || (between 48 57 b || (between 65 90 b || between 97 122 b))
+
+pub data KeyBytes : List ℕ → Type 0 where
+  none : KeyBytes []
+  more : {b : ℕ} {key : List ℕ} → keyByte b ≡ true → KeyBytes key → KeyBytes (b ∷ key)
+
+pub record KeyOk (key : List ℕ) : Type 0 where
+  pub some : 1 ≤ length key
+  pub most : length key ≤ 32
+  pub each : KeyBytes key
+
+-- a band: missing, or whether it is a limit value and its tenths
+pub data Band : Type 0 where
+  missing : Band
+  level : Bool → ℤ → Band
+
+-- "an optional minus, 1 to 3 digits without a needless leading zero, a point, one digit"
+unfoldable pub figureText : ℕ → List ℕ
+figureText m = decimal (m / 10) ++ (46 ∷ (48 + m % 10) ∷ [])
+
+unfoldable pub levelText : ℤ → List ℕ
+levelText (pos m) = figureText m
+levelText (negsuc m) = 45 ∷ figureText (suc m)
+
+abbrev pub markText : Bool → List ℕ
+markText true = 76 ∷ []
+markText false = []
+
+-- "`-` for missing, or an optional `L` (limit), then .."
+unfoldable pub bandText : Band → List ℕ
+bandText missing = 45 ∷ []
+bandText (level limit z) = markText limit ++ levelText z
+
+-- a value that has such a text: 999.9 dB at most, either way
+pub data BandOk : Band → Type 0 where
+  gone : BandOk missing
+  given : {limit : Bool} {z : ℤ} → P z ≤ 9999 → N z ≤ 9999 → BandOk (level limit z)
+
+pub data BandsOk : List Band → Type 0 where
+  none : BandsOk []
+  more : {b : Band} {bs : List Band} → BandOk b → BandsOk bs → BandsOk (b ∷ bs)
+
+-- "Request: kind, key, one or more bands"
+unfoldable pub requestText : Kind → List ℕ → List Band → List ℕ
+requestText kind key bands = lineText (kindText kind) (key ∷ map bandText bands)

@@ -1,0 +1,256 @@
+// Bands: one field, and all of a line.
+use crate::bytes::byte;
+use crate::bytes::digit;
+use quantity::Tenths;
+use quantity::signed::less;
+ghost use mathlib.Core.Path.{_≡_};
+ghost use Prim.Native.Nat.{_≤_, _<_};
+ghost use lib.IntN.{pos, negsuc};
+ghost use lib.ListN.{length};
+ghost use Rattle.request.specs.Texts.{Band};
+ghost use Rattle.request.specs.Reading.{figureAt, firstAt, secondAt, thirdAt, tenthAt, signedBy, levelAt, bandAt, bandsAt, Found};
+ghost use Rattle.request.specs.Gathering.{fieldOf, orElse, weightBy, Small, GatheredAt};
+
+// Tenths without a sign, and the position after them.
+pub enum Figure {
+    Read(u32, usize),
+    Nothing,
+}
+
+// A band: the position after it (0 where none stands there), its value, whether it is a limit value, and the number of the
+// refusal that it gives (0 for none).
+pub struct Field {
+    pub next: usize,
+    pub value: Tenths,
+    pub limit: bool,
+    pub fault: u32,
+}
+
+// The digit after the point.
+fn tenth_at(s: &[u8], at: usize, whole: u32) -> Figure
+    requires { ⌜ whole < 1000 ⌝ }
+    ensures { λ r. ⌜ r ≡ tenthAt (now (s .entry)) at whole ⌝ }
+{
+    let d = digit(byte(s, at));
+    if d < 10 {
+        return Figure::Read(10 * whole + d, at + 1);
+    }
+    Figure::Nothing
+}
+
+// After three digits of the whole part: a point.
+fn third_at(s: &[u8], at: usize, whole: u32) -> Figure
+    requires { ⌜ whole < 1000 ⌝ }
+    ensures { λ r. ⌜ r ≡ thirdAt (now (s .entry)) at whole ⌝ }
+{
+    if byte(s, at) == 46 {
+        return tenth_at(s, at + 1, whole);
+    }
+    Figure::Nothing
+}
+
+// After two digits: a point, or a third digit.
+fn second_at(s: &[u8], at: usize, whole: u32) -> Figure
+    requires { ⌜ whole < 100 ⌝ }
+    ensures { λ r. ⌜ r ≡ secondAt (now (s .entry)) at whole ⌝ }
+{
+    let b = byte(s, at);
+    if b == 46 {
+        return tenth_at(s, at + 1, whole);
+    }
+    let d = digit(b);
+    if d < 10 {
+        return third_at(s, at + 1, 10 * whole + d);
+    }
+    Figure::Nothing
+}
+
+// After one digit: a point, or a second digit if the first is no 0.
+fn first_at(s: &[u8], at: usize, whole: u32) -> Figure
+    requires { ⌜ whole < 10 ⌝ }
+    ensures { λ r. ⌜ r ≡ firstAt (now (s .entry)) at whole ⌝ }
+{
+    let b = byte(s, at);
+    if b == 46 {
+        return tenth_at(s, at + 1, whole);
+    }
+    if whole == 0 {
+        return Figure::Nothing;
+    }
+    let d = digit(b);
+    if d < 10 {
+        return second_at(s, at + 1, 10 * whole + d);
+    }
+    Figure::Nothing
+}
+
+// 1 to 3 digits without a needless leading zero, a point, one digit.
+fn figure_at(s: &[u8], at: usize) -> Figure
+    ensures { λ r. ⌜ r ≡ figureAt (now (s .entry)) at ⌝ }
+{
+    let d = digit(byte(s, at));
+    if d < 10 {
+        return first_at(s, at + 1, d);
+    }
+    Figure::Nothing
+}
+
+fn no_field() -> Field
+    ensures { λ r. ⌜ r ≡ fieldOf Found.nothing ⌝ }
+{
+    Field {
+        next: 0,
+        value: Tenths(0),
+        limit: false,
+        fault: 0,
+    }
+}
+
+fn missing_field(next: usize) -> Field
+    ensures { λ r. ⌜ r ≡ fieldOf (Found.found Band.missing next) ⌝ }
+{
+    Field {
+        next,
+        value: Tenths(0),
+        limit: false,
+        fault: 3,
+    }
+}
+
+fn level_field(value: Tenths, limit: bool, next: usize) -> Field
+    ensures { λ r. ⌜ r ≡ fieldOf (Found.found (Band.level limit (value .0)) next) ⌝ }
+{
+    if value.in_range() {
+        return Field {
+            next,
+            value,
+            limit,
+            fault: 0,
+        };
+    }
+    Field {
+        next,
+        value,
+        limit,
+        fault: 4,
+    }
+}
+
+// The level that a figure is behind its sign; no level is -0.0.
+fn signed(figure: Figure, limit: bool, minus: bool) -> Field
+    requires { ⌜ Small figure ⌝ }
+    ensures { λ r. ⌜ r ≡ fieldOf (signedBy limit minus figure) ⌝ }
+{
+    match figure {
+        Figure::Nothing => no_field(),
+        Figure::Read(m, next) => {
+            if !minus {
+                return level_field(Tenths(less(m, 0)), limit, next);
+            }
+            if m == 0 {
+                return no_field();
+            }
+            level_field(Tenths(less(0, m)), limit, next)
+        }
+    }
+}
+
+// An optional minus and a figure.
+fn level_at(s: &[u8], at: usize, limit: bool) -> Field
+    ensures { λ r. ⌜ r ≡ fieldOf (levelAt (now (s .entry)) at limit) ⌝ }
+{
+    if byte(s, at) == 45 {
+        return signed(figure_at(s, at + 1), limit, true);
+    }
+    signed(figure_at(s, at), limit, false)
+}
+
+// The band at a position.
+pub fn band_at(s: &[u8], at: usize) -> Field
+    ensures { λ r. ⌜ r ≡ fieldOf (bandAt (now (s .entry)) at) ⌝ }
+{
+    let b = byte(s, at);
+    if b == 76 {
+        return level_at(s, at + 1, true);
+    }
+    if b == 45 {
+        if digit(byte(s, at + 1)) < 10 {
+            return level_at(s, at, false);
+        }
+        return missing_field(at + 1);
+    }
+    level_at(s, at, false)
+}
+
+// The bands of a line: the position after its line feed (0 where they are broken), how many, the number of the first refusal
+// among them (0 for none), and, if they are at most 16, their values and marks.
+pub struct Gathered {
+    pub next: usize,
+    pub count: usize,
+    pub fault: u32,
+    pub marks: u16,
+    pub values: [Tenths; 16],
+}
+
+// The first refusal stays.
+fn first_of(fault: u32, other: u32) -> u32
+    ensures { λ r. ⌜ r ≡ orElse fault other ⌝ }
+{
+    if fault == 0 { other } else { fault }
+}
+
+fn weight_of(limit: bool, weight: u32) -> u32
+    ensures { λ r. ⌜ r ≡ weightBy limit weight ⌝ }
+{
+    if limit { weight } else { 0 }
+}
+
+fn broken() -> Gathered
+    ensures { λ r. ⌜ r .next ≡ 0 ⌝ }
+{
+    Gathered {
+        next: 0,
+        count: 0,
+        fault: 0,
+        marks: 0,
+        values: [Tenths(0); 16],
+    }
+}
+
+// All bands from the first tab on, up to the line feed.
+pub fn bands_at(s: &[u8], start: usize) -> Gathered
+    ensures { λ r. ⌜ GatheredAt (bandsAt (now (s .entry)) start) r ⌝ }
+{
+    let mut values = [Tenths(0); 16];
+    let mut marks = 0u32;
+    let mut weight = 1u32;
+    let mut count = 0usize;
+    let mut fault = 0u32;
+    let mut at = start;
+    while byte(s, at) == 9 {
+        let band = band_at(s, at + 1);
+        let next = band.next;
+        if next == 0 {
+            return broken();
+        }
+        if count < 16 {
+            let value = band.value;
+            values[count] = value;
+            marks += weight_of(band.limit, weight);
+            weight += weight;
+        }
+        fault = first_of(fault, band.fault);
+        count += 1;
+        at = next;
+    }
+    if byte(s, at) != 10 {
+        return broken();
+    }
+    Gathered {
+        next: at + 1,
+        count,
+        fault,
+        marks: marks as u16,
+        values,
+    }
+}

@@ -1,0 +1,50 @@
+// Single bytes of a line.
+ghost use mathlib.Core.Path.{_≡_};
+ghost use Prim.Native.Nat.{_≤_};
+ghost use Rattle.request.specs.Texts.{keyByte};
+ghost use Rattle.request.specs.Reading.{byteAt, digitOf};
+
+// The byte at a position; 0 past the end.
+pub fn byte(s: &[u8], at: usize) -> u8
+    ensures { λ r. ⌜ r ≡ byteAt (now (s .entry)) at ⌝ }
+{
+    if at < s.len() { s[at] } else { 0 }
+}
+
+// The value of a digit; 10 for any other byte.
+pub fn digit(b: u8) -> u32
+    ensures { λ r. ⌜ r ≡ digitOf b ⌝ }
+{
+    if b < 48 {
+        return 10;
+    }
+    if 57 < b {
+        return 10;
+    }
+    (b - 48) as u32
+}
+
+// Whether a byte may stand in a key: an ASCII letter, a digit or a hyphen.
+pub fn is_key(b: u8) -> bool
+    ensures { λ r. ⌜ r ≡ keyByte b ⌝ }
+{
+    if b == 45 {
+        return true;
+    }
+    if b < 48 {
+        return false;
+    }
+    if b <= 57 {
+        return true;
+    }
+    if b < 65 {
+        return false;
+    }
+    if b <= 90 {
+        return true;
+    }
+    if b < 97 {
+        return false;
+    }
+    b <= 122
+}
