@@ -31,6 +31,19 @@ digit-high b h = go (leb 48 b)
     go true = simp (lt-leb b 57 h)
     go false = refl
 
+-- the test of a digit
+pub digit-between : (b : ℕ) → between 48 57 b ≡ true → (48 ≤ b) × (b ≤ 57)
+digit-between b e = go (leb 48 b) (leb b 57) refl refl e
+  where
+    go : (x y : Bool) → leb 48 b ≡ x → leb b 57 ≡ y → x && y ≡ true → (48 ≤ b) × (b ≤ 57)
+    go true true p q e = (leb-true 48 b p, leb-true b 57 q)
+    go true false p q e = absurd (subst T (sym e) tt)
+    go false y p q e = absurd (subst T (sym e) tt)
+
+pub digit-beside : (b : ℕ) → between 48 57 b ≡ false → 10 ≡ digitOf b
+unfolding digitOf
+digit-beside b e = rw e
+
 -- what the value of a digit says of its byte
 pub record Digit (b : ℕ) : Type 0 where
   pub is : b ≡ 48 + digitOf b

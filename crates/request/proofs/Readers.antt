@@ -10,21 +10,22 @@ use lib.IntN.{ℤ, pos, negℤ, _-ℤ_}
 use lib.ListN.{length, getD, take, drop}
 use Rattle.laws.proofs.Ints.{ints, minus, opposite, eq-made, apart}
 use Rattle.quantity.specs.Quantities.{inRange}
+use Rattle.quantity.proofs.Rim.{range-yes}
 use Rattle.quantity.specs.declared.quantities.Tenths.{Tenths}
-use Rattle.request.specs.Texts.{Band, keyByte}
+use Rattle.request.specs.Texts.{Band, between, keyByte}
 use Rattle.request.specs.Texts.Band.{missing, level}
 use Rattle.request.specs.declared.bands.Field.{Field}
 use Rattle.request.specs.declared.bands.Figure.{Figure}
 use Rattle.request.specs.declared.bands.Figure.the-variants.{Read, Nothing}
-use Rattle.request.specs.Reading.{byteAt, digitOf, digitAt, tenthAt, thirdAt, secondAt, firstAt, figureAt}
+use Rattle.request.specs.Reading.{byteAt, digitOf, digitAt, tenthBy, tenthAt, thirdAt, secondAt, firstAt, figureAt}
 use Rattle.request.specs.Reading.{Found, signedBy, levelAt, bandAt, Bands, bandsFrom, keySpan, kindAt}
 use Rattle.request.specs.Reading.Bands.{broken, ended}
 use Rattle.request.specs.declared.heads.Named.{Named}
 use Rattle.request.specs.declared.heads.Named.the-variants as named
 use Rattle.rating.specs.declared.kinds.Kind.the-variants.{A3, A1, I3, I1}
 use Rattle.request.specs.Reading.Found.{found}
-use Rattle.request.specs.Gathering.{Small, fieldOf, orElse}
-use Rattle.request.proofs.Leaves.{inside, digit-read, digit-most, key-range}
+use Rattle.request.specs.Gathering.{Small, Short, fieldOf, orElse}
+use Rattle.request.proofs.Leaves.{inside, Digit, digit-yes, digit-beside, digit-read, digit-most, key-range}
 
 module _ (s : List ℕ) (at whole : ℕ) where
   pub tenth-got : (d : ℕ) → d ≡ digitAt s at → d < 10 → Read (10 * whole + d) (at + 1) ≡ tenthAt s at whole
@@ -82,6 +83,51 @@ figure-some s at d e h = rw (lt-ltb (digitAt s at) 10 (omega arith)) (ap (λ (x 
 pub figure-none : (s : List ℕ) (at d : ℕ) → d ≡ digitAt s at → 10 ≤ d → Nothing ≡ figureAt s at
 unfolding figureAt
 figure-none s at d e h = rw (le-ltb (digitAt s at) 10 (omega arith))
+
+-- the digit after the point, by its byte
+pub tenth-digit : (b whole next : ℕ) → (48 ≤ b) × (b ≤ 57) → Read (10 * whole + (b - 48)) next ≡ tenthBy b whole next
+tenth-digit b whole next h =
+    let e : b - 48 ≡ digitOf b = digit-yes b (h .0) (h .1) in
+    rw (lt-ltb (digitOf b) 10 (omega arith)) (ap (λ (x : ℕ). Read (10 * whole + x) next) e)
+
+pub tenth-beside : (b whole next : ℕ) → between 48 57 b ≡ false → Nothing ≡ tenthBy b whole next
+tenth-beside b whole next e = rw (le-ltb (digitOf b) 10 (omega (arith, digit-beside b e)))
+
+pub tenth-place : (s : List ℕ) (at whole b : ℕ) → b ≡ byteAt s at → tenthBy b whole (at + 1) ≡ tenthAt s at whole
+unfolding tenthAt
+tenth-place s at whole b e = ap (λ (x : ℕ). tenthBy x whole (at + 1)) e
+
+-- the short way: one digit before the point, or two
+pub short-read : (b whole next : ℕ) (f r : Figure) → whole ≤ 99 → r ≡ tenthBy b whole next → tenthBy b whole next ≡ f → Short f r
+short-read b whole next f r h e g = subst (Short f) (sym e) (go (ltb (digitOf b) 10) refl g)
+  where
+    go : (t : Bool) → ltb (digitOf b) 10 ≡ t → cond t (Read (10 * whole + digitOf b) next) Nothing ≡ f
+        → Short f (cond t (Read (10 * whole + digitOf b) next) Nothing)
+    go true p g = (sym g, omega (arith, ltb-true (digitOf b) 10 p))
+    go false p g = tt
+
+module _ (s : List ℕ) (at tens ones : ℕ) (e : tens ≡ byteAt s at) (f : ones ≡ byteAt s (at + 1)) (h : (48 ≤ tens) × (tens ≤ 57)) where
+  ten : tens - 48 ≡ digitAt s at
+  ten = digit-yes tens (h .0) (h .1) ∙ ap digitOf e
+
+  place : (i j : ℕ) → i ≡ j → (whole : ℕ) → tenthBy (byteAt s i) whole (i + 1) ≡ tenthBy (byteAt s j) whole (j + 1)
+  place i j e whole = ap (λ (k : ℕ). tenthBy (byteAt s k) whole (k + 1)) e
+
+  pub short-one : ones ≡ 46 → tenthBy (byteAt s (at + 2)) (tens - 48) (at + 3) ≡ figureAt s at
+  unfolding tenthAt
+  short-one p =
+      ap (tenthBy (byteAt s (at + 2)) (tens - 48)) (omega arith) ∙ place (at + 2) (at + 1 + 1) (omega arith) (tens - 48)
+      ∙ first-point s (at + 1) (tens - 48) ones f p ∙ figure-some s at (tens - 48) ten (omega arith)
+
+  pub short-two : (ones ≡ 46 → ⊥) → (tens ≡ 48 → ⊥) → (48 ≤ ones) × (ones ≤ 57) → byteAt s (at + 2) ≡ 46
+      → tenthBy (byteAt s (at + 3)) (10 * (tens - 48) + (ones - 48)) (at + 4) ≡ figureAt s at
+  unfolding tenthAt
+  short-two p z k q =
+      ap (tenthBy (byteAt s (at + 3)) (10 * (tens - 48) + (ones - 48))) (omega arith)
+      ∙ place (at + 3) (at + 1 + 1 + 1) (omega arith) (10 * (tens - 48) + (ones - 48))
+      ∙ second-point s (at + 1 + 1) (10 * (tens - 48) + (ones - 48)) 46 (sym (ap (byteAt s) (omega arith) ∙ q)) refl
+      ∙ first-more s (at + 1) (tens - 48) ones (ones - 48) f p (λ c. z (omega arith)) (digit-yes ones (k .0) (k .1) ∙ ap digitOf f) (omega arith)
+      ∙ figure-some s at (tens - 48) ten (omega arith)
 
 -- a figure has at most four digits
 tenth-small : (s : List ℕ) (at whole : ℕ) → whole < 1000 → Small (tenthAt s at whole)
@@ -198,6 +244,29 @@ module _ (s : List ℕ) (at : ℕ) where
   pub band-plain : (b : ℕ) → b ≡ byteAt s at → (b ≡ 76 → ⊥) → (b ≡ 45 → ⊥) → fieldOf (levelAt s at false) ≡ fieldOf (bandAt s at)
   unfolding bandAt
   band-plain b e h k = rw (ne-eqb (byteAt s at) 76 (λ q. h (e ∙ q)), ne-eqb (byteAt s at) 45 (λ q. k (e ∙ q)))
+
+  abbrev Some : Figure → Type 0
+  Some Nothing = ⊥
+  Some (Read m next) = Unit {0}
+
+  -- a figure alone is a level above 0 that is no limit value
+  figure-digit : (m next : ℕ) → figureAt s at ≡ Read m next → digitAt s at < 10
+  unfolding figureAt
+  figure-digit m next e = go (ltb (digitAt s at) 10) refl e
+    where
+      go : (t : Bool) → ltb (digitAt s at) 10 ≡ t → cond t (firstAt s (at + 1) (digitAt s at)) Nothing ≡ Read m next → digitAt s at < 10
+      go true p e = ltb-true (digitAt s at) 10 p
+      go false p e = absurd (subst Some (sym e) tt)
+
+  pub band-short : (r : Figure) (m next : ℕ) (z : ℤ) → Short (figureAt s at) r → r ≡ Read m next → z ≡ pos m -ℤ pos 0
+      → record { next = next; value = record { 0 = z }; limit = false; fault = 0 } ≡ fieldOf (bandAt s at)
+  band-short r m next z h e g =
+      let k : (figureAt s at ≡ Read m next) × (m ≤ 999) = subst (Short (figureAt s at)) e h in
+      let d : Digit (byteAt s at) = digit-read (byteAt s at) (figure-digit m next (k .0)) in
+      level-is false (record { 0 = z }) next (sym (range-yes z (omega (ints, g, minus (pos m) (pos 0), apart z, k .1)) (omega (ints, g, minus (pos m) (pos 0), apart z, k .1))))
+      ∙ signed-plus false false (figureAt s at) m next z (k .0) refl g
+      ∙ level-plus false (byteAt s at) (figureAt s at) (fieldOf (signedBy false false (figureAt s at))) refl (omega (arith, d .is, d .small)) refl refl
+      ∙ band-plain (byteAt s at) refl (omega (arith, d .is, d .small)) (omega (arith, d .is, d .small))
 
 -- all bands: a tab and a band, a tab and none, a line feed, or anything else
 module _ (more : ℕ) (s : List ℕ) (at : ℕ) (before : List Band) where

@@ -67,6 +67,11 @@ abbrev pub Small : Figure → Type 0
 Small (Read m next) = m ≤ 9999
 Small Nothing = Unit {0}
 
+-- the short way reads the figure of a level below 100 dB as it is, or leaves it
+abbrev pub Short : Figure → Figure → Type 0
+Short figure Nothing = Unit {0}
+Short figure (Read m next) = (figure ≡ Read m next) × (m ≤ 999)
+
 abbrev pub weightBy : Bool → ℕ → ℕ
 weightBy true w = w
 weightBy false w = 0

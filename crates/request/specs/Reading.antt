@@ -29,8 +29,11 @@ abbrev pub digitAt : List ℕ → ℕ → ℕ
 digitAt s i = digitOf (byteAt s i)
 
 -- the digit after the point
+abbrev pub tenthBy : ℕ → ℕ → ℕ → Figure
+tenthBy b whole next = cond (ltb (digitOf b) 10) (Read (10 * whole + digitOf b) next) Nothing
+
 unfoldable pub tenthAt : List ℕ → ℕ → ℕ → Figure
-tenthAt s at whole = cond (ltb (digitAt s at) 10) (Read (10 * whole + digitAt s at) (at + 1)) Nothing
+tenthAt s at whole = tenthBy (byteAt s at) whole (at + 1)
 
 -- after three digits of the whole part, after two, after one: a point, or one more digit, if the first is no 0
 unfoldable pub thirdAt : List ℕ → ℕ → ℕ → Figure

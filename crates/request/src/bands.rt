@@ -1,15 +1,16 @@
 // Bands: one field, and all of a line.
 use crate::bytes::byte;
 use crate::bytes::digit;
+use crate::bytes::is_digit;
 use quantity::Tenths;
 use quantity::signed::less;
 ghost use mathlib.Core.Path.{_≡_};
-ghost use Prim.Native.Nat.{_≤_, _<_};
+ghost use Prim.Native.Nat.{_+_, _≤_, _<_};
 ghost use lib.IntN.{pos, negsuc};
 ghost use lib.ListN.{length};
 ghost use Rattle.request.specs.Texts.{Band};
-ghost use Rattle.request.specs.Reading.{figureAt, firstAt, secondAt, thirdAt, tenthAt, signedBy, levelAt, bandAt, bandsAt, Found};
-ghost use Rattle.request.specs.Gathering.{fieldOf, orElse, weightBy, Small, GatheredAt};
+ghost use Rattle.request.specs.Reading.{figureAt, firstAt, secondAt, thirdAt, tenthBy, tenthAt, signedBy, levelAt, bandAt, bandsAt, Found};
+ghost use Rattle.request.specs.Gathering.{fieldOf, orElse, weightBy, Small, Short, GatheredAt};
 
 // Tenths without a sign, and the position after them.
 pub enum Figure {
@@ -26,16 +27,22 @@ pub struct Field {
     pub fault: u32,
 }
 
-// The digit after the point.
-fn tenth_at(s: &[u8], at: usize, whole: u32) -> Figure
+// The digit after the point: the figure, up to `next`, if it is one.
+fn tenth_of(b: u8, whole: u32, next: usize) -> Figure
     requires { ⌜ whole < 1000 ⌝ }
-    ensures { λ r. ⌜ r ≡ tenthAt (now (s .entry)) at whole ⌝ }
+    ensures { λ r. ⌜ r ≡ tenthBy b whole next ⌝ }
 {
-    let d = digit(byte(s, at));
-    if d < 10 {
-        return Figure::Read(10 * whole + d, at + 1);
+    if is_digit(b) {
+        return Figure::Read(10 * whole + (b - 48) as u32, next);
     }
     Figure::Nothing
+}
+
+fn tenth_at(s: &[u8], at: usize, whole: u32) -> Figure
+    requires { ⌜ (whole < 1000) × (at ≤ length (now s)) ⌝ }
+    ensures { λ r. ⌜ r ≡ tenthAt (now (s .entry)) at whole ⌝ }
+{
+    tenth_of(byte(s, at), whole, at + 1)
 }
 
 // After three digits of the whole part: a point.
@@ -165,8 +172,8 @@ fn level_at(s: &[u8], at: usize, limit: bool) -> Field
     signed(figure_at(s, at), limit, false)
 }
 
-// The band at a position.
-pub fn band_at(s: &[u8], at: usize) -> Field
+// The band at a position, whatever stands there.
+fn any_band_at(s: &[u8], at: usize) -> Field
     ensures { λ r. ⌜ r ≡ fieldOf (bandAt (now (s .entry)) at) ⌝ }
 {
     let b = byte(s, at);
@@ -180,6 +187,54 @@ pub fn band_at(s: &[u8], at: usize) -> Field
         return missing_field(at + 1);
     }
     level_at(s, at, false)
+}
+
+// The short way, without a look at the end of the line for each byte: one or two digits, a point, one digit. Nearly every band
+// of a real line is such a figure.
+fn short_at(s: &[u8], at: usize) -> Figure
+    requires { ⌜ at + 4 ≤ length (now s) ⌝ }
+    ensures { λ r. ⌜ Short (figureAt (now (s .entry)) at) r ⌝ }
+{
+    let tens = s[at];
+    if !is_digit(tens) {
+        return Figure::Nothing;
+    }
+    let ones = s[at + 1];
+    if ones == 46 {
+        return tenth_of(s[at + 2], (tens - 48) as u32, at + 3);
+    }
+    if tens == 48 {
+        return Figure::Nothing;
+    }
+    if !is_digit(ones) {
+        return Figure::Nothing;
+    }
+    if s[at + 2] == 46 {
+        return tenth_of(
+            s[at + 3],
+            10 * (tens - 48) as u32 + (ones - 48) as u32,
+            at + 4,
+        );
+    }
+    Figure::Nothing
+}
+
+// The band at a position: by the short way where it can be gone.
+pub fn band_at(s: &[u8], at: usize) -> Field
+    requires { ⌜ at ≤ length (now s) ⌝ }
+    ensures { λ r. ⌜ r ≡ fieldOf (bandAt (now (s .entry)) at) ⌝ }
+{
+    if at + 4 <= s.len() {
+        if let Figure::Read(m, next) = short_at(s, at) {
+            return Field {
+                next,
+                value: Tenths(less(m, 0)),
+                limit: false,
+                fault: 0,
+            };
+        }
+    }
+    any_band_at(s, at)
 }
 
 // The bands of a line: the position after its line feed (0 where they are broken), how many, the number of the first refusal

@@ -1,7 +1,7 @@
 // Single bytes of a line.
 ghost use mathlib.Core.Path.{_≡_};
 ghost use Prim.Native.Nat.{_≤_};
-ghost use Rattle.request.specs.Texts.{keyByte};
+ghost use Rattle.request.specs.Texts.{between, keyByte};
 ghost use Rattle.request.specs.Reading.{byteAt, digitOf};
 
 // The byte at a position; 0 past the end.
@@ -11,17 +11,24 @@ pub fn byte(s: &[u8], at: usize) -> u8
     if at < s.len() { s[at] } else { 0 }
 }
 
+// Whether a byte is a digit.
+pub fn is_digit(b: u8) -> bool
+    ensures { λ r. ⌜ r ≡ between 48 57 b ⌝ }
+{
+    if b < 48 {
+        return false;
+    }
+    b <= 57
+}
+
 // The value of a digit; 10 for any other byte.
 pub fn digit(b: u8) -> u32
     ensures { λ r. ⌜ r ≡ digitOf b ⌝ }
 {
-    if b < 48 {
-        return 10;
+    if is_digit(b) {
+        return (b - 48) as u32;
     }
-    if 57 < b {
-        return 10;
-    }
-    (b - 48) as u32
+    10
 }
 
 // Whether a byte may stand in a key: an ASCII letter, a digit or a hyphen.

@@ -38,7 +38,10 @@ add-band-at c =
 
 -- src/bands.rt:231:13
 band-at-requires : tie.Need-band-at-requires Inv-loop μ-loop
-band-at-requires c κs = tt
+band-at-requires c κs =
+    let a = c .before .before .before .before .args in
+    let l = c .before .before .loop in
+    omega (arith, inside-byte (a .s .now) (l .at) (c .before .byte .result) (c .before .byte .ensures) (omega arith))
 
 -- src/bands.rt:234:13
 broken-requires : tie.Need-broken-requires Inv-loop μ-loop

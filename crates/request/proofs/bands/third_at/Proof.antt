@@ -16,7 +16,9 @@ add-tenth-at c =
     omega (arith, inside-byte (a .s .now) (a .at) (c .before .byte .result) (c .before .byte .ensures) (omega arith))
 
 tenth-at-requires : tie.Need-tenth-at-requires
-tenth-at-requires c κs = search needs
+tenth-at-requires c κs =
+    let a = c .before .before .before .args in
+    (omega arith, omega (arith, inside-byte (a .s .now) (a .at) (c .before .byte .result) (c .before .byte .ensures) (omega arith)))
 
 returns : tie.Need-returns
 returns c =
