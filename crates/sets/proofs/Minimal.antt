@@ -13,10 +13,10 @@ use lib.Dec.{T, eqb, leb, ltb, leb→le, le→leb, ltb→lt, lt→ltb, eqb→eq,
 use Rattle.laws.specs.Sums.{sumTo}
 use Rattle.laws.proofs.Sums.{sum-same, sum-mono, sum-const}
 use Rattle.rating.specs.Bands.{allTo, bit}
-use Rattle.lift.specs.Masks.{part, smaller}
-use Rattle.lift.specs.Gains.{gainsOf, leastOf, listedBy}
-use Rattle.lift.proofs.Tests.{holds, is-false, one-test, and-left, and-right, and-both, all-read, all-made}
-use Rattle.lift.proofs.Bits.{pack, pack-bit, pack-below, same-bits, Apart, parted}
+use Rattle.sets.specs.Masks.{part, smaller}
+use Rattle.sets.specs.Gains.{gainsOf, leastOf, listedBy}
+use Rattle.sets.proofs.Tests.{holds, is-false, one-test, and-left, and-right, and-both, all-read, all-made}
+use Rattle.sets.proofs.Bits.{pack, pack-bit, pack-below, same-bits, Apart, parted}
 
 -- two sums that differ at one place only
 sum-but-one : (f h : ℕ → ℕ) (d e b n : ℕ) → b < n → f b + d ≤ h b + e → ((i : ℕ) → i < n → (i ≡ b → ⊥) → f i ≤ h i)

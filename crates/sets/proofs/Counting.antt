@@ -15,8 +15,8 @@ use Rattle.quantity.specs.Quantities.{inRange}
 use Rattle.quantity.proofs.Rim.{sum-value, difference-value}
 use Rattle.rating.specs.Levels.{levelBy, Entries}
 use Rattle.rating.proofs.Counted.{Counted, counted, up-asks, down-asks, level-parts}
-use Rattle.lift.specs.Reach.{highest}
-use Rattle.lift.specs.Gains.{Countable}
+use Rattle.sets.specs.Highest.{highest}
+use Rattle.sets.specs.Gains.{Countable}
 
 -- ---- counted from an origin
 pub up-asked : (sign : Bool) (z : ℤ) (e : ℕ) → sign ≡ true → Countable sign z e → (N z ≤ e) × (P z + e < 2147483648)

@@ -13,9 +13,9 @@ use Rattle.rating.specs.declared.kinds.Kind.{Kind}
 use Rattle.rating.specs.declared.kinds.Kind.the-variants.{A3, A1, I3, I1}
 use Rattle.rating.specs.Kinds.{bandsOf}
 use Rattle.rating.specs.Bands.{anyTo, bit}
-use Rattle.lift.specs.Masks.{bandsFrom, bandsIn, size, isMask, earlier, before, choose, masksInOrder, filter}
-use Rattle.lift.proofs.Tests.{and-left, and-right}
-use Rattle.lift.proofs.Filters.{allIn, risingBy, filter-made}
+use Rattle.sets.specs.Masks.{bandsFrom, bandsIn, size, isMask, earlier, before, choose, masksInOrder, filter}
+use Rattle.sets.proofs.Tests.{and-left, and-right}
+use Rattle.sets.proofs.Filters.{allIn, risingBy, filter-made}
 
 -- ---- computed: for thirds and for octaves
 pub sets-count : length (masksInOrder 16) ≡ 696

@@ -9,7 +9,7 @@ use borrow.Author.Tests.{eq-eqb, ne-eqb, le-leb, lt-leb}
 use lib.Dec.{ltb}
 use Rattle.laws.proofs.Sums.{sum-none, sum-more}
 use Rattle.rating.specs.Bands.{bit}
-use Rattle.lift.specs.Gains.{gainsOf, leastOf, listedBy}
+use Rattle.sets.specs.Gains.{gainsOf, leastOf, listedBy}
 
 -- ---- the bits that are left
 pub rest-all : (m : ℕ) → m ≡ m / 2 ^ 0

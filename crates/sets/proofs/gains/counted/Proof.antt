@@ -1,8 +1,8 @@
--- `lift::gains::counted` meets its contract: above the origin or below it, by the sign. Assumes nothing.
+-- `sets::gains::counted` meets its contract: above the origin or below it, by the sign. Assumes nothing.
 use Rattle.quantity.proofs.Rim.{back}
-use Rattle.lift.proofs.Counting.{up-asked, down-asked, up-is, down-is}
-use Rattle.lift.proofs.gains.counted.Statement.{statement}
-use Rattle.lift.proofs.gains.counted.Tie as tie
+use Rattle.sets.proofs.Counting.{up-asked, down-asked, up-is, down-is}
+use Rattle.sets.proofs.gains.counted.Statement.{statement}
+use Rattle.sets.proofs.gains.counted.Tie as tie
 
 above-requires : tie.Need-above-requires
 above-requires c κs =

@@ -1,9 +1,9 @@
--- `lift::masks::mask_at` meets its contract: the table is the enumeration, by computation. Assumes nothing.
+-- `sets::masks::mask_at` meets its contract: the table is the enumeration, by computation. Assumes nothing.
 use mathlib.Core.Path.{refl}
 use borrow.Author.Needs.{needs}
-use Rattle.lift.specs.Masks.{masksInOrder, choose}
-use Rattle.lift.proofs.masks.mask_at.Statement.{statement}
-use Rattle.lift.proofs.masks.mask_at.Tie as tie
+use Rattle.sets.specs.Masks.{masksInOrder, choose}
+use Rattle.sets.proofs.masks.mask_at.Statement.{statement}
+use Rattle.sets.proofs.masks.mask_at.Tie as tie
 
 mul-result : tie.Need-mul-result
 mul-result c = search needs

@@ -10,8 +10,8 @@ ghost use Prim.Native.Nat.{ℕ, _-_, _≤_, _<_};
 ghost use Rattle.quantity.specs.Quantities.{inRange};
 ghost use Rattle.rating.specs.Bands.{accepted};
 ghost use Rattle.rating.specs.Levels.{at, levelBy, Entries};
-ghost use Rattle.lift.specs.Reach.{highest};
-ghost use Rattle.lift.specs.Gains.{Countable, Gained};
+ghost use Rattle.sets.specs.Highest.{highest};
+ghost use Rattle.sets.specs.Gains.{Countable, Gained};
 
 // The gain of each band, and the total of the deficits.
 pub struct Gains {

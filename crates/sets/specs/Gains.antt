@@ -1,5 +1,6 @@
 -- Inside the lift list: what lifting a band takes off the total of deficits at the target, and the listing by these gains.
--- Nothing here is part of what a caller must believe: `proofs/` shows that it says the same as the definitions of `Reach`.
+-- Nothing here is part of what a caller must believe: the proofs of crate `lift` show that it says the same as the definitions
+-- of its `Reach`.
 use mathlib.Core.Bool.{Bool, true, false, cond, _&&_}
 use mathlib.Core.List.{List}
 use mathlib.Core.Path.{_≡_}
@@ -14,8 +15,8 @@ use Rattle.rating.specs.Kinds.{airborne, referenceOf}
 use Rattle.rating.specs.Bands.{bit}
 use Rattle.rating.specs.Curve.{deficit, takenOff}
 use Rattle.rating.specs.Levels.{at, levelBy, levelAt, totalAt}
-use Rattle.lift.specs.Masks.{masksInOrder, filter}
-use Rattle.lift.specs.Reach.{highest}
+use Rattle.sets.specs.Masks.{masksInOrder, filter}
+use Rattle.sets.specs.Highest.{highest}
 
 -- the curve position that rates the target
 abbrev pub targetAt : Kind → ℤ → ℤ

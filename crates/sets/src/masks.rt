@@ -2,7 +2,7 @@
 ghost use mathlib.Core.Path.{_≡_};
 ghost use Prim.Native.Nat.{_<_};
 ghost use lib.ListN.{getD};
-ghost use Rattle.lift.specs.Masks.{masksInOrder};
+ghost use Rattle.sets.specs.Masks.{masksInOrder};
 
 // All of them: by size, then by lowest, next and last band.
 const MASKS: [u16; 696] = [

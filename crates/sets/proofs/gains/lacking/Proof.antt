@@ -1,11 +1,11 @@
--- `lift::gains::lacking` meets its contract: a band value can be counted from its entry. Assumes nothing.
+-- `sets::gains::lacking` meets its contract: a band value can be counted from its entry. Assumes nothing.
 use mathlib.Core.Path.{_∙_, ap}
 use Prim.Native.Nat.{ℕ, _-_}
 use borrow.Author.Needs.{needs}
 use Rattle.quantity.proofs.Rim.{back}
-use Rattle.lift.proofs.Counting.{countable}
-use Rattle.lift.proofs.gains.lacking.Statement.{statement}
-use Rattle.lift.proofs.gains.lacking.Tie as tie
+use Rattle.sets.proofs.Counting.{countable}
+use Rattle.sets.proofs.gains.lacking.Statement.{statement}
+use Rattle.sets.proofs.gains.lacking.Tie as tie
 
 counted-requires : tie.Need-counted-requires
 counted-requires c κs =

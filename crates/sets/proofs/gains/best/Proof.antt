@@ -1,9 +1,9 @@
--- `lift::gains::best` meets its contract: one arm for each sign. Assumes nothing.
+-- `sets::gains::best` meets its contract: one arm for each sign. Assumes nothing.
 use mathlib.Core.Path.{sym, ap}
 use borrow.Author.Needs.{needs}
-use Rattle.lift.specs.Reach.{highest}
-use Rattle.lift.proofs.gains.best.Statement.{statement}
-use Rattle.lift.proofs.gains.best.Tie as tie
+use Rattle.sets.specs.Highest.{highest}
+use Rattle.sets.proofs.gains.best.Statement.{statement}
+use Rattle.sets.proofs.gains.best.Tie as tie
 
 returns : tie.Need-returns
 returns c = search needs

@@ -1,4 +1,4 @@
--- `lift::gains::gains_at` meets its contract. The invariant: the gains of the bands passed, 0 from there on, and the total of
+-- `sets::gains::gains_at` meets its contract. The invariant: the gains of the bands passed, 0 from there on, and the total of
 -- their deficits. No value lacks less than a lifted one, so no difference is below 0. Assumes nothing.
 use mathlib.Core.Path.{_≡_, refl, _∙_, ap, ap₂}
 use mathlib.Core.Bool.{true}
@@ -11,11 +11,11 @@ use Rattle.quantity.specs.Quantities.{inRange, bandOf}
 use Rattle.rating.proofs.Walks.{put-more, total-none, total-more}
 use Rattle.rating.proofs.Searched.{band-in}
 use Rattle.rating.specs.Levels.{at, levelBy, levelAt, totalAt, Entries}
-use Rattle.lift.specs.Gains.{gainAt}
-use Rattle.lift.specs.Reach.{highest}
-use Rattle.lift.proofs.Counting.{best-in, best-most, zeros, put-rest}
-use Rattle.lift.proofs.gains.gains_at.Statement.{statement}
-use Rattle.lift.proofs.gains.gains_at.Tie as tie
+use Rattle.sets.specs.Gains.{gainAt}
+use Rattle.sets.specs.Highest.{highest}
+use Rattle.sets.proofs.Counting.{best-in, best-most, zeros, put-rest}
+use Rattle.sets.proofs.gains.gains_at.Statement.{statement}
+use Rattle.sets.proofs.gains.gains_at.Tie as tie
 
 abbrev Inv-loop : tie.InvT-loop
 Inv-loop bands airborne p set entries highest height each₀ total₀ i₀ each total i =
