@@ -13,6 +13,9 @@ use intake::Taken;
 use intake::Time;
 use libc::STDOUT_FILENO;
 use lift::Lifted;
+use products::Cover;
+use products::Graded;
+use products::Side;
 use quantity::BandSet;
 use quantity::Decibels;
 use quantity::Refusal;
@@ -22,10 +25,7 @@ use quantity::signed::below;
 use rating::Rated;
 use rating::Sheet;
 use rating::Term;
-use rooms::Cover;
-use rooms::Graded;
 use rooms::RawBand;
-use rooms::Side;
 ghost use Prim.Native.Nat.{_≤_};
 ghost use Rattle.laws.specs.Parts.{P};
 
@@ -188,18 +188,18 @@ fn print_intake(t: Intake, count: usize) {
 
 // 8: octaves.
 fn octaves(case: Case) {
-    print_intake(rooms::octaves(set_at(case, 1, 2, 3)), 5);
+    print_intake(means::octaves(set_at(case, 1, 2, 3)), 5);
 }
 
 // 9: specimens.
 fn specimens(case: Case) {
     let length = natural(case, 1) as usize;
-    print_intake(rooms::specimens(readings_at(case, 2, 48), length), 16);
+    print_intake(means::specimens(readings_at(case, 2, 48), length), 16);
 }
 
 // 10: a cover.
 fn cover_of(case: Case) {
-    let cover = rooms::cover_of(set_at(case, 1, 2, 3));
+    let cover = products::cover_of(set_at(case, 1, 2, 3));
     match cover {
         Cover::Improvement(rating, term, limit) => {
             print(b"0");
@@ -221,7 +221,7 @@ fn side_at(case: Case, i: usize) -> Side {
 // 11: a grade.
 fn grade_of(case: Case) {
     let length = natural(case, 2) as usize;
-    let graded = rooms::grade_of(readings_at(case, 3, 48), length, side_at(case, 1));
+    let graded = products::grade_of(readings_at(case, 3, 48), length, side_at(case, 1));
     match graded {
         Graded::Given(g) => {
             print(b"0");

@@ -6,5 +6,5 @@ unfoldable pub use Rattle.energy.specs.Energies.{energyRule, F}
 unfoldable pub use Rattle.energy.specs.Energies.{AtLeast, levelRule, u}
 -- "Mean of three x .. The mean is m + v."
 unfoldable pub use Rattle.energy.specs.Means.{MeanRule, meanRule, v}
-pub use Rattle.rooms.specs.Means.{leastOf₃, energiesOf₃}
-unfoldable pub use Rattle.rooms.specs.Means.{meanOf₃}
+pub use Rattle.means.specs.Means.{leastOf₃, energiesOf₃}
+unfoldable pub use Rattle.means.specs.Means.{meanOf₃}

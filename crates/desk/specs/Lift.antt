@@ -1,9 +1,10 @@
 -- Document 01, "The lift list".
 
 -- sets of bands and their order
-unfoldable pub use Rattle.lift.specs.Masks.{bandsIn, size, isMask, part, smaller, before, choose, masksInOrder, filter}
+unfoldable pub use Rattle.sets.specs.Masks.{bandsIn, size, isMask, part, smaller, before, choose, masksInOrder, filter}
 -- what a set reaches, and which sets are listed
-pub use Rattle.lift.specs.Reach.{betterBy, meetsBy, highest, Listed}
+pub use Rattle.sets.specs.Highest.{highest}
+pub use Rattle.lift.specs.Reach.{betterBy, meetsBy, Listed}
 unfoldable pub use Rattle.lift.specs.Reach.{lifted, reaches, listedMask, liftList}
 -- the call: its answer, and the lent buffer afterwards
 pub use Rattle.lift.specs.declared.lists.Lifted.{Lifted}

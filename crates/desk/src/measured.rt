@@ -33,12 +33,12 @@ pub fn standardized(raw: RawBand) -> Taken
 pub fn octaves(set: BandSet) -> Intake
     ensures { λ r. ⌜ r ≡ octavesOf set ⌝ }
 {
-    rooms::octaves(set)
+    means::octaves(set)
 }
 
 // Sixteen band means of three specimens: 12, then the readings in order, each 3, 2, 4.
 pub fn specimens(readings: [Reading; 48], len: usize) -> Intake
     ensures { λ r. ⌜ r ≡ specimensOf readings len ⌝ }
 {
-    rooms::specimens(readings, len)
+    means::specimens(readings, len)
 }

@@ -3,7 +3,7 @@ use mathlib.Core.Path.{_≡_, refl}
 use Prim.Native.Nat.{ℕ, zero, suc}
 use lib.Ieee.{Float}
 use Rattle.quantity.specs.declared.quantities.Reading.the-variants.{Missing}
-use Rattle.rooms.specs.declared.grades.Side.the-variants.{Inside}
+use Rattle.products.specs.declared.grades.Side.the-variants.{Inside}
 use Rattle.desk_c.specs.declared.kinds.Named.the-variants.{Unknown}
 use Rattle.desk_c.specs.Lists.{readingFrom}
 use Rattle.desk_c.specs.Ratings.{kindOf}

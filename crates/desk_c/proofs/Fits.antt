@@ -22,9 +22,9 @@ use Rattle.rating.specs.Kinds.{bandsOf}
 use Rattle.rating.specs.Bands.{accepted}
 use Rattle.rating.specs.Curve.{firstFrom, shiftsOf, within, shifted, startOf}
 use Rattle.rating.specs.Sheets.{asked, sheetOf, ratedOf}
-use Rattle.rooms.specs.declared.grades.Side.{Side}
-use Rattle.rooms.specs.Sets.{specimensOf}
-use Rattle.rooms.specs.Grades.{gradeOf, decidingOf, gradedBy, graded, gradesOf}
+use Rattle.products.specs.declared.grades.Side.{Side}
+use Rattle.means.specs.Sets.{specimensOf}
+use Rattle.products.specs.Grades.{gradeOf, decidingOf, gradedBy, graded, gradesOf}
 use Rattle.desk.specs.Calls.{ratedBy, readingsRated}
 use Rattle.desk_c.specs.Ratings.{Fitting}
 use Rattle.desk_c.specs.Rooms.{GradeFits}

@@ -14,11 +14,11 @@ use Rattle.rating.specs.declared.kinds.Kind.{Kind}
 use Rattle.rating.specs.declared.sheets.Rated.{Rated}
 use Rattle.rating.specs.declared.sheets.Rated.the-variants as rated
 use Rattle.rating.specs.declared.sheets.Sheet.{Sheet}
-use Rattle.rooms.specs.declared.covers.Cover.{Cover}
-use Rattle.rooms.specs.declared.covers.Cover.the-variants as cover
-use Rattle.rooms.specs.declared.grades.Grade.{Grade}
-use Rattle.rooms.specs.declared.grades.Graded.{Graded}
-use Rattle.rooms.specs.declared.grades.Graded.the-variants as graded
+use Rattle.products.specs.declared.covers.Cover.{Cover}
+use Rattle.products.specs.declared.covers.Cover.the-variants as cover
+use Rattle.products.specs.declared.grades.Grade.{Grade}
+use Rattle.products.specs.declared.grades.Graded.{Graded}
+use Rattle.products.specs.declared.grades.Graded.the-variants as graded
 use Rattle.desk_c.specs.declared.kinds.Named.{Named}
 use Rattle.desk_c.specs.declared.kinds.Named.the-variants.{Is, Unknown}
 use Rattle.desk_c.specs.Answers.{Answer, returned, held, flag}

@@ -13,18 +13,18 @@ use Rattle.intake.specs.declared.lists.Outcome.{Outcome}
 use Rattle.intake.specs.declared.lists.Outcome.the-variants as outcome
 use Rattle.intake.specs.declared.lists.Intake.{Intake}
 use Rattle.rooms.specs.declared.raw.RawBand.{RawBand}
-use Rattle.rooms.specs.declared.covers.Cover.{Cover}
-use Rattle.rooms.specs.declared.covers.Cover.the-variants as cover
-use Rattle.rooms.specs.declared.grades.Side.{Side}
-use Rattle.rooms.specs.declared.grades.Side.the-variants.{Outside, Inside}
-use Rattle.rooms.specs.declared.grades.Grade.{Grade}
-use Rattle.rooms.specs.declared.grades.Graded.{Graded}
-use Rattle.rooms.specs.declared.grades.Graded.the-variants as graded
+use Rattle.products.specs.declared.covers.Cover.{Cover}
+use Rattle.products.specs.declared.covers.Cover.the-variants as cover
+use Rattle.products.specs.declared.grades.Side.{Side}
+use Rattle.products.specs.declared.grades.Side.the-variants.{Outside, Inside}
+use Rattle.products.specs.declared.grades.Grade.{Grade}
+use Rattle.products.specs.declared.grades.Graded.{Graded}
+use Rattle.products.specs.declared.grades.Graded.the-variants as graded
 use Rattle.rooms.specs.Background.{fieldOf, laboratoryOf}
 use Rattle.rooms.specs.Raw.{rawOf}
-use Rattle.rooms.specs.Sets.{octavesOf, specimensOf}
-use Rattle.rooms.specs.Covers.{coverOf}
-use Rattle.rooms.specs.Grades.{gradesOf}
+use Rattle.means.specs.Sets.{octavesOf, specimensOf}
+use Rattle.products.specs.Covers.{coverOf}
+use Rattle.products.specs.Grades.{gradesOf}
 use Rattle.desk_c.specs.Answers.{Answer, flag}
 use Rattle.desk_c.specs.Answers.Answer.{refused, numbers}
 use Rattle.desk_c.specs.Lists.{listed, setFrom, readingsFrom}

@@ -2,11 +2,11 @@
 use intake::Intake;
 use intake::Outcome;
 use intake::Taken;
+use products::Cover;
+use products::Graded;
 use quantity::BandSet;
 use rating::Rated;
 use rating::Term;
-use rooms::Cover;
-use rooms::Graded;
 ghost use mathlib.Core.Path.{_≡_};
 ghost use Prim.Native.Nat.{_+_, _≤_};
 ghost use lib.IntN.{pos};

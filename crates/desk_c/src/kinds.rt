@@ -1,6 +1,6 @@
 // Kinds and sides by their numbers.
+use products::Side;
 use rating::Kind;
-use rooms::Side;
 ghost use mathlib.Core.Path.{_≡_};
 ghost use Rattle.desk_c.specs.Ratings.{kindOf};
 ghost use Rattle.desk_c.specs.Rooms.{sideOf};

@@ -6,9 +6,9 @@ use mathlib.Core.List.{List, [], _∷_, _++_}
 use Prim.Native.Nat.{ℕ, _+_, _≤_, _<_}
 use native.Mathlib.Omega.{arith}
 use lib.ListN.{length, getD, set, length-append}
-use Rattle.lift.specs.Masks.{filter}
+use Rattle.sets.specs.Masks.{filter}
+use Rattle.sets.proofs.Filters.{keptTo, kept-one, kept-none, kept-all, kept-within}
 use Rattle.lift.specs.Calls.{front}
-use Rattle.lift.proofs.Filters.{keptTo, kept-one, kept-none, kept-all, kept-within}
 use Rattle.lift.proofs.Fronts.{front-none, front-more, front-length}
 
 pub record Filled (ok : ℕ → Bool) (l b : List ℕ) (i count : ℕ) (out : List ℕ) : Type 0 where

@@ -32,15 +32,16 @@ use Rattle.rating.proofs.Bridge.{positionBy, EntryOf, entry-parts, deficit-leve
 use Rattle.rating.proofs.Facts.{count-of, entries-fit}
 use Rattle.rating.proofs.Meaning.{total-is, rating-is}
 use Rattle.rating.proofs.Theorems.{found}
-use Rattle.lift.specs.Masks.{isMask, smaller, choose, masksInOrder, filter}
-use Rattle.lift.specs.Reach.{betterBy, meetsBy, highest, lifted, reaches, listedMask, liftList}
+use Rattle.sets.specs.Masks.{isMask, smaller, choose, masksInOrder, filter}
+use Rattle.sets.specs.Highest.{highest}
+use Rattle.sets.specs.Gains.{targetAt, lacking, gain, gainsOf, listedBy, byGains, Countable, Gained}
+use Rattle.sets.proofs.Tests.{holds, is-true, one-test, and-left, and-right, all-same, Passing, any-read}
+use Rattle.sets.proofs.Filters.{filter-same, filter-twice, filter-length, each-of}
+use Rattle.sets.proofs.Enumeration.{all-sets, fewer, higher, high-bands, set-word, set-some}
+use Rattle.sets.proofs.Counting.{best-in, best-most}
+use Rattle.sets.proofs.Minimal.{least-is, idle-band}
+use Rattle.lift.specs.Reach.{betterBy, meetsBy, lifted, reaches, listedMask, liftList}
 use Rattle.lift.specs.Calls.{inTargets, placesOf}
-use Rattle.lift.specs.Gains.{targetAt, lacking, gain, gainsOf, listedBy, byGains, Countable, Gained}
-use Rattle.lift.proofs.Tests.{holds, is-true, one-test, and-left, and-right, all-same, Passing, any-read}
-use Rattle.lift.proofs.Filters.{filter-same, filter-twice, filter-length, each-of}
-use Rattle.lift.proofs.Enumeration.{all-sets, fewer, higher, high-bands, set-word, set-some}
-use Rattle.lift.proofs.Counting.{best-in, best-most}
-use Rattle.lift.proofs.Minimal.{least-is, idle-band}
 use Rattle.lift.proofs.Reached.{meets-is, reaches-is}
 
 -- ---- the target's position, as a natural

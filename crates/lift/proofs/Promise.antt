@@ -19,15 +19,15 @@ use Rattle.rating.specs.declared.sheets.Rated.the-variants.{Rating, Refused as 
 use Rattle.rating.specs.Kinds.{airborne, bandsOf}
 use Rattle.rating.specs.Bands.{allTo}
 use Rattle.rating.specs.Sheets.{ratedOf}
+use Rattle.sets.specs.Masks.{isMask, smaller, before, masksInOrder}
+use Rattle.sets.proofs.Tests.{and-left, and-right, and-both, all-read, all-made}
+use Rattle.sets.proofs.Filters.{Kept, filter-read, filter-made, each-of, rising-filter, in-order}
+use Rattle.sets.proofs.Order.{before-chain, before-other}
+use Rattle.sets.proofs.Enumeration.{all-sets, sets-rise, every-set}
 use Rattle.lift.specs.declared.lists.Lifted.{Lifted}
 use Rattle.lift.specs.declared.lists.Lifted.the-variants.{Count, Refused}
-use Rattle.lift.specs.Masks.{isMask, smaller, before, masksInOrder}
 use Rattle.lift.specs.Reach.{betterBy, reaches, listedMask, liftList, Listed}
 use Rattle.lift.specs.Calls.{inTargets, placesOf, tested, countOf, answerBy, answerOf, front, bufferBy, LiftIs}
-use Rattle.lift.proofs.Tests.{and-left, and-right, and-both, all-read, all-made}
-use Rattle.lift.proofs.Filters.{Kept, filter-read, filter-made, each-of, rising-filter, in-order}
-use Rattle.lift.proofs.Order.{before-chain, before-other}
-use Rattle.lift.proofs.Enumeration.{all-sets, sets-rise, every-set}
 
 module _ (k : Kind) (x : ℕ → ℤ) (t : ℤ) where
   abbrev fails : ℕ → ℕ → Bool

@@ -18,11 +18,11 @@ use Rattle.rating.specs.Bands.{accepted, allTo}
 use Rattle.rating.specs.Curve.{deficit, total, within, startOf, shifted, firstFrom, shiftsOf, positionOf, ratingOf}
 use Rattle.rating.specs.Levels.{listed, entriesOf, levelBy, levelAt, totalAt, ratingAt}
 use Rattle.rating.proofs.Bridge.{listed-is}
-use Rattle.lift.specs.Masks.{choose, masksInOrder, filter}
+use Rattle.sets.specs.Masks.{choose, masksInOrder, filter}
+use Rattle.sets.specs.Gains.{gainsOf, leastOf, listedBy, byGains, gainAt, Gained}
+use Rattle.sets.proofs.Tests.{is-true, and-left, and-right}
 use Rattle.lift.specs.Reach.{betterBy, liftList}
 use Rattle.lift.specs.Calls.{inTargets}
-use Rattle.lift.specs.Gains.{gainsOf, leastOf, listedBy, byGains, gainAt, Gained}
-use Rattle.lift.proofs.Tests.{is-true, and-left, and-right}
 use Rattle.lift.proofs.Listing.{list-is}
 
 -- bands from the lowest, as a band set

@@ -23,10 +23,11 @@ use Rattle.rating.proofs.Walks.{all-made}
 use Rattle.rating.proofs.Searched.{band-in, count-most}
 use Rattle.rating.proofs.Facts.{count-of}
 use Rattle.rating.proofs.Theorems.{position-best}
-use Rattle.lift.specs.Reach.{meetsBy, highest, lifted, reaches}
-use Rattle.lift.specs.Gains.{targetAt}
-use Rattle.lift.proofs.Tests.{one-test}
-use Rattle.lift.proofs.Counting.{best-in}
+use Rattle.sets.specs.Highest.{highest}
+use Rattle.sets.specs.Gains.{targetAt}
+use Rattle.sets.proofs.Tests.{one-test}
+use Rattle.sets.proofs.Counting.{best-in}
+use Rattle.lift.specs.Reach.{meetsBy, lifted, reaches}
 
 -- ---- a less strict position has no greater deficits
 deficit-less : (sign : Bool) (p q K x : ℤ) → stricterBy sign p q → deficitBy sign q K x ≤ deficitBy sign p K x

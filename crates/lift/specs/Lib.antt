@@ -1,6 +1,3 @@
--- The lift list, in the order of document 01: sets of bands, what a set reaches, the list, the call; then what the code works
--- with inside.
-pub mod Masks
+-- The lift list, in the order of document 01: what a set of bands reaches, the list, the call.
 pub mod Reach
 pub mod Calls
-pub mod Gains

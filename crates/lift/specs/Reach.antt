@@ -4,13 +4,14 @@ use mathlib.Core.Bool.{Bool, true, false, not, cond, _&&_}
 use mathlib.Core.List.{List}
 use Prim.Native.Nat.{ℕ, _<_}
 use lib.Dec.{T}
-use lib.IntN.{ℤ, pos, negsuc}
+use lib.IntN.{ℤ}
 use lib.Signed.{leZ, ltZ}
 use Rattle.rating.specs.declared.kinds.Kind.{Kind}
 use Rattle.rating.specs.Kinds.{airborne, bandsOf}
 use Rattle.rating.specs.Bands.{allTo, bit}
 use Rattle.rating.specs.Curve.{ratingOf}
-use Rattle.lift.specs.Masks.{isMask, smaller, masksInOrder, filter}
+use Rattle.sets.specs.Masks.{isMask, smaller, masksInOrder, filter}
+use Rattle.sets.specs.Highest.{highest}
 
 -- "A target is better if greater than the rating (airborne) or less (impact)."
 abbrev pub betterBy : Bool → ℤ → ℤ → Bool
@@ -21,11 +22,6 @@ betterBy false target rating = ltZ target rating
 abbrev pub meetsBy : Bool → ℤ → ℤ → Bool
 meetsBy true target rating = leZ target rating
 meetsBy false target rating = leZ rating target
-
--- "replaced by 1500 (impact: -200)"
-abbrev pub highest : Bool → ℤ
-highest true = pos 1500
-highest false = negsuc 199
 
 -- "those bands replaced by 1500 (impact: -200) and the rest kept"
 unfoldable pub lifted : Kind → (ℕ → ℤ) → ℕ → ℕ → ℤ

@@ -3,9 +3,7 @@
 //
 // The deficits at the target, and what lifting each band takes off them, are worked out once; each of the 696 sets is then
 // tried by its gains alone. The list is proved to be that of document 01, in which every set is tried through the rating.
-mod gains;
 mod lists;
-mod masks;
 
 pub use lists::Lifted;
 pub use lists::lift;

@@ -1,7 +1,4 @@
 // The lift list of a band set.
-use crate::gains::counted;
-use crate::gains::gains_at;
-use crate::masks::mask_at;
 use quantity::BandSet;
 use quantity::Decibels;
 use quantity::Refusal;
@@ -9,6 +6,9 @@ use rating::Kind;
 use rating::Rated;
 use rating::numbers_of;
 use rating::rate;
+use sets::counted;
+use sets::gains_at;
+use sets::mask_at;
 ghost use mathlib.Core.Path.{_≡_};
 ghost use mathlib.Core.Bool.{true};
 ghost use Prim.Native.Nat.{ℕ, _+_, _*_, _-_, _≤_, _<_, min};
@@ -18,9 +18,9 @@ ghost use Rattle.rating.specs.Kinds.{airborne, bandsOf};
 ghost use Rattle.rating.specs.Bands.{accepted};
 ghost use Rattle.rating.specs.Curve.{ratingOf};
 ghost use Rattle.rating.specs.Levels.{at};
+ghost use Rattle.sets.specs.Gains.{listedBy, byGains};
 ghost use Rattle.lift.specs.Reach.{betterBy, liftList};
 ghost use Rattle.lift.specs.Calls.{inTargets, placesOf, front, RatedIs, LiftIs};
-ghost use Rattle.lift.specs.Gains.{listedBy, byGains};
 
 // How many sets are listed, or why none can be.
 pub enum Lifted {

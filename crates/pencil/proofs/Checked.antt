@@ -18,13 +18,13 @@ use Rattle.rating.specs.Curve.{deficit, total, within, startOf, shifted, firstF
 use Rattle.rating.specs.Terms.{leastTo, greatestTo, weighted, airborneTerm, impactTerm}
 use Rattle.rating.specs.Levels.{listed, entriesOf, levelBy, totalAt}
 use Rattle.rating.specs.Sheets.{sheetOf, ratedOf}
-use Rattle.lift.specs.Masks.{choose, masksInOrder, filter}
+use Rattle.sets.specs.Masks.{choose, masksInOrder, filter}
 use Rattle.lift.specs.Reach.{liftList}
 use Rattle.lift.specs.Calls.{inTargets}
-use Rattle.lift.specs.Gains.{gainsOf, leastOf, listedBy, byGains}
+use Rattle.sets.specs.Gains.{gainsOf, leastOf, listedBy, byGains}
 use Rattle.lift.proofs.Quick.{listable, quickList, quick-is}
 use Rattle.intake.specs.Lists.{listed as listed-tenths}
-use Rattle.rooms.specs.Covers.{floor, derivedSet, coverOf}
+use Rattle.products.specs.Covers.{floor, derivedSet, coverOf}
 use Rattle.pencil.specs.Cases.{Case, Claim, All, table, Bands, at, lists, improves, improvements, even, dipped, twice-dipped}
 
 -- a list's row, by gains

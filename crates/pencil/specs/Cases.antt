@@ -18,8 +18,8 @@ use Rattle.rating.specs.declared.sheets.Rated.the-variants.{Rating, Refused}
 use Rattle.rating.specs.Curve.{total, ratingOf}
 use Rattle.rating.specs.Sheets.{ratedOf, decibels}
 use Rattle.lift.specs.Reach.{liftList}
-use Rattle.rooms.specs.declared.covers.Cover.the-variants.{Improvement}
-use Rattle.rooms.specs.Covers.{coverOf}
+use Rattle.products.specs.declared.covers.Cover.the-variants.{Improvement}
+use Rattle.products.specs.Covers.{coverOf}
 
 -- bands from the lowest, in tenths
 abbrev pub Bands : Type 0

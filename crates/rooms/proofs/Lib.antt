@@ -1,13 +1,5 @@
--- Laws of rooms and specimens.
+-- Laws of rooms.
 pub mod Counts
 pub mod Rules
 pub mod Differences
-pub mod Averages
-pub mod Filling
-pub mod Marks
-pub mod Thirds
-pub mod Small
-pub mod Signed
-pub mod Improvements
-pub mod Gradings
 pub mod Meaning

@@ -1,8 +1,3 @@
--- Corrections, means, covers and grades, in the order of document 01.
-pub mod Means
+-- The corrections and the raw band, in the order of document 01.
 pub mod Background
 pub mod Raw
-pub mod Sets
-pub mod Covers
-pub mod Grades
-pub mod Bounds

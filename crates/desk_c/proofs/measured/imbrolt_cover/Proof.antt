@@ -1,7 +1,7 @@
 -- `desk_c::measured::imbrolt_cover` meets its contract. Assumes nothing.
 use borrow.Author.Needs.{needs}
 use mathlib.Core.Path.{_∙_, ap}
-use Rattle.rooms.specs.Covers.{coverOf}
+use Rattle.products.specs.Covers.{coverOf}
 use Rattle.desk_c.specs.Rooms.{coverNumbers, coverAnswer}
 use Rattle.desk_c.proofs.Gives.{given}
 use Rattle.desk_c.proofs.measured.imbrolt_cover.Statement.{statement}

@@ -4,8 +4,8 @@ use mathlib.Core.Path.{sym, _∙_, ap₂, ap, subst}
 use mathlib.Core.List.{List}
 use lib.ListN.{length}
 use Rattle.quantity.specs.declared.quantities.Reading.{Reading}
-use Rattle.rooms.specs.declared.grades.Side.{Side}
-use Rattle.rooms.specs.Grades.{gradesOf}
+use Rattle.products.specs.declared.grades.Side.{Side}
+use Rattle.products.specs.Grades.{gradesOf}
 use Rattle.desk_c.specs.Rooms.{gradedAnswer, gradeAnswer, GradeFits}
 use Rattle.desk_c.proofs.Gives.{given}
 use Rattle.desk_c.proofs.Fits.{grades-fit}

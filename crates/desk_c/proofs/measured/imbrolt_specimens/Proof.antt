@@ -5,7 +5,7 @@ use mathlib.Core.List.{List}
 use lib.ListN.{length}
 use Rattle.quantity.specs.declared.quantities.Reading.{Reading}
 use Rattle.intake.specs.declared.lists.Intake.{Intake}
-use Rattle.rooms.specs.Sets.{specimensOf}
+use Rattle.means.specs.Sets.{specimensOf}
 use Rattle.desk_c.specs.Rooms.{intakeAnswer, specimensAnswer}
 use Rattle.desk_c.proofs.Gives.{given}
 use Rattle.desk_c.proofs.measured.imbrolt_specimens.Statement.{statement}

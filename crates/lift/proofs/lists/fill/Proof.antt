@@ -7,9 +7,9 @@ use Prim.Native.Nat.{ℕ, _+_, _-_, _≤_, _<_}
 use native.Mathlib.Omega.{arith}
 use lib.ListN.{length, getD, set}
 use Rattle.rating.specs.Levels.{at}
-use Rattle.lift.specs.Masks.{masksInOrder, filter}
-use Rattle.lift.specs.Gains.{listedBy, byGains}
-use Rattle.lift.proofs.Enumeration.{sets-count}
+use Rattle.sets.specs.Masks.{masksInOrder, filter}
+use Rattle.sets.specs.Gains.{listedBy, byGains}
+use Rattle.sets.proofs.Enumeration.{sets-count}
 use Rattle.lift.proofs.Filling.{Filled, filled-none, filled-length, filled-room, filled-one, filled-skip, filled-all}
 use Rattle.lift.proofs.lists.fill.Statement.{statement}
 use Rattle.lift.proofs.lists.fill.Tie as tie

@@ -1,0 +1,96 @@
+-- The mean of three over ℤ is the mean of three naturals counted from one floor: so it lies between the least and the greatest
+-- of the three, and the mean of band values is a band value. Assumes nothing.
+use mathlib.Core.Path.{_≡_, refl, sym, ap, ap₂}
+use mathlib.Core.Bool.{Bool, true, false, cond}
+use Prim.Native.Nat.{ℕ, _+_, _-_, _≤_, min, max}
+use native.Mathlib.Omega.{arith}
+use lib.IntN.{ℤ, pos, _-ℤ_}
+use lib.Signed.{leZ, _≤ℤ_}
+use Rattle.laws.specs.Parts.{P, N}
+use Rattle.laws.proofs.Ints.{plus, minus, apart, eq-made, le-made, le-yes, le-no}
+use Rattle.quantity.specs.Quantities.{inRange}
+use Rattle.quantity.proofs.Rim.{range-read, range-yes}
+use Rattle.energy.specs.Energies.{F}
+use Rattle.energy.specs.Means.{v, least₃, sum₃, mean₃}
+use Rattle.energy.proofs.Between.{greatest₃, mean-between}
+use Rattle.rating.specs.Terms.{lesser, greater}
+use Rattle.rating.proofs.Weighing.{Up}
+use Rattle.means.specs.Means.{leastOf₃, energiesOf₃, meanOf₃}
+
+lesser-up : (c : ℕ) (x y : ℤ) (a b : ℕ) → Up c x a → Up c y b → Up c (lesser x y) (min a b)
+lesser-up c x y a b p q = go (leZ x y) refl
+  where
+    go : (t : Bool) → leZ x y ≡ t → Up c (cond t x y) (min a b)
+    go true e = omega (arith, le-yes x y e)
+    go false e = omega (arith, le-no x y e)
+
+greater-up : (c : ℕ) (x y : ℤ) (a b : ℕ) → Up c x a → Up c y b → Up c (greater x y) (max a b)
+greater-up c x y a b p q = go (leZ x y) refl
+  where
+    go : (t : Bool) → leZ x y ≡ t → Up c (cond t y x) (max a b)
+    go true e = omega (arith, le-yes x y e)
+    go false e = omega (arith, le-no x y e)
+
+-- what lies above the least is the same number
+above-up : (c : ℕ) (x m : ℤ) (a l : ℕ) → Up c x a → Up c m l → l ≤ a → P (x -ℤ m) ≡ a - l
+above-up c x m a l p q h = omega (arith, minus x m, apart (x -ℤ m))
+
+-- three values and their counts from one floor
+pub record Three (c : ℕ) (x y z : ℤ) (a b d : ℕ) : Type 0 where
+  pub first : Up c x a
+  pub second : Up c y b
+  pub third : Up c z d
+
+module _ (c : ℕ) (x y z : ℤ) (a b d : ℕ) (t : Three c x y z a b d) where
+  abbrev m : ℤ
+  m = leastOf₃ x y z
+
+  abbrev l : ℕ
+  l = least₃ a b d
+
+  least-up : Up c m l
+  least-up = lesser-up c x (lesser y z) a (min b d) (t .first) (lesser-up c y z b d (t .second) (t .third))
+
+  greatest-up : Up c (greater x (greater y z)) (greatest₃ a b d)
+  greatest-up = greater-up c x (greater y z) a (max b d) (t .first) (greater-up c y z b d (t .second) (t .third))
+
+  energies-up : energiesOf₃ m x y z ≡ sum₃ a b d
+  energies-up =
+      ap₂ _+_ (ap₂ _+_ (ap F (above-up c x m a l (t .first) least-up (omega arith))) (ap F (above-up c y m b l (t .second) least-up (omega arith))))
+      (ap F (above-up c z m d l (t .third) least-up (omega arith)))
+
+  pub mean-up : Up c (meanOf₃ x y z) (mean₃ a b d)
+  unfolding meanOf₃ mean₃
+  mean-up =
+      omega (arith, least-up, ap v energies-up, plus m (pos (v (energiesOf₃ m x y z))))
+
+  pub mean-is : pos (mean₃ a b d) -ℤ pos c ≡ meanOf₃ x y z
+  mean-is = eq-made (omega (arith, mean-up, minus (pos (mean₃ a b d)) (pos c)))
+
+  pub mean-lies : (leastOf₃ x y z ≤ℤ meanOf₃ x y z) × (meanOf₃ x y z ≤ℤ greater x (greater y z))
+  mean-lies =
+      let w = mean-between a b d in
+      (le-made (omega (arith, mean-up, least-up, w .0)), le-made (omega (arith, mean-up, greatest-up, w .1)))
+
+-- "The mean is m + v": it lies between the least and the greatest of the three, whatever they are
+pub mean-between-three : (x y z : ℤ) → (leastOf₃ x y z ≤ℤ meanOf₃ x y z) × (meanOf₃ x y z ≤ℤ greater x (greater y z))
+mean-between-three x y z =
+    let c : ℕ = N x + N y + N z in
+    mean-lies c x y z (c - N x + P x) (c - N y + P y) (c - N z + P z)
+    (record { first = omega arith; second = omega arith; third = omega arith })
+
+-- the mean of three band values is a band value
+pub mean-counts : (a b d : ℕ) → a ≤ 1700 → b ≤ 1700 → d ≤ 1700 → mean₃ a b d ≤ 1700
+mean-counts a b d h k n = omega (arith, mean-between a b d .1)
+
+pub mean-range : (x y z : ℤ) → inRange x ≡ true → inRange y ≡ true → inRange z ≡ true → inRange (meanOf₃ x y z) ≡ true
+mean-range x y z p q r =
+    let i = range-read x p in
+    let j = range-read y q in
+    let k = range-read z r in
+    let a : ℕ = 200 - N x + P x in
+    let b : ℕ = 200 - N y + P y in
+    let d : ℕ = 200 - N z + P z in
+    let u = mean-up 200 x y z a b d (record { first = omega arith; second = omega arith; third = omega arith }) in
+    let h : mean₃ a b d ≤ 1700 = mean-counts a b d (omega (arith, apart x)) (omega (arith, apart y)) (omega (arith, apart z)) in
+    sym (range-yes (meanOf₃ x y z) (omega (arith, apart (meanOf₃ x y z))) (omega (arith, apart (meanOf₃ x y z))))

@@ -1,0 +1,6 @@
+-- Laws of means.
+pub mod Averages
+pub mod Filling
+pub mod Marks
+pub mod Thirds
+pub mod Meaning

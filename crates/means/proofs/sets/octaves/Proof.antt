@@ -1,0 +1,62 @@
+-- `means::sets::octaves` meets its contract: the count, then the bands, then five means. Assumes nothing.
+use borrow.Author.Needs.{needs}
+use mathlib.Core.Path.{_≡_, sym, _∙_}
+use native.Mathlib.Omega.{arith}
+use borrow.Author.Tests.{not-true, not-false}
+use mathlib.Core.Bool.{true}
+use Rattle.rating.specs.Bands.{accepted}
+use Rattle.means.proofs.Thirds.{octaves-count, octaves-range, octaves-made, widened-range}
+use Rattle.means.proofs.sets.octaves.Statement.{statement}
+use Rattle.means.proofs.sets.octaves.Tie as tie
+
+refused-requires : tie.Need-refused-requires
+refused-requires c κs = search needs
+
+returns : tie.Need-returns
+returns c = c .refused .ensures ∙ octaves-count (c .before .before .before .args .set) (c .before .if1 .taken)
+
+all-in-range-requires : tie.Need-all-in-range-requires
+all-in-range-requires c κs = search needs
+
+refused-requires-2 : tie.Need-refused-requires-2
+refused-requires-2 c κs = search needs
+
+returns-2 : tie.Need-returns-2
+returns-2 c =
+    c .refused2 .ensures
+    ∙ octaves-range (c .before .before .before .before .before .args .set) (c .before .before .before .if1 .left) (sym (c .before .before .all-in-range .ensures) ∙ not-true (c .before .before .all-in-range .result) (c .before .if2 .taken))
+
+within : (c : tie.Else2) → accepted (c .before .before .before .before .args .set) 16 ≡ true
+within c = sym (c .before .all-in-range .ensures) ∙ not-false (c .before .all-in-range .result) (c .if2 .left)
+
+widened-requires : tie.Need-widened-requires
+widened-requires c κs = search needs
+
+cast-means : tie.Need-cast-means
+cast-means c = search needs
+
+means-requires : tie.Need-means-requires
+means-requires c κs =
+    let e = c .before .before .before in
+    let b = e .before .before .before .before in
+    (omega arith, ((λ j h. omega arith), λ i h. widened-range (b .args .set) (c .before .widened .result) (within e) (c .before .widened .ensures .0) (c .before .widened .ensures .1) i))
+
+returns-3 : tie.Need-returns-3
+returns-3 c =
+    let e = c .before .before .before .before in
+    let b = e .before .before .before .before in
+    octaves-made (b .args .set) (c .before .before .widened .result) (c .means .result) (e .before .before .if1 .left) (within e) (c .before .before .widened .ensures .0) (c .means .ensures)
+
+pub octaves-spec : {M : Type 1} → statement M
+octaves-spec =
+    tie.close
+    (tie.spec
+    refused-requires
+    returns
+    all-in-range-requires
+    refused-requires-2
+    returns-2
+    widened-requires
+    cast-means
+    means-requires
+    returns-3)

@@ -1,0 +1,60 @@
+-- `means::sets::specimens` meets its contract: the count, then the readings, then sixteen means. Assumes nothing.
+use borrow.Author.Needs.{needs}
+use mathlib.Core.Path.{_∙_}
+use native.Mathlib.Omega.{arith}
+use Rattle.means.proofs.Thirds.{specimens-count, specimens-refused, specimens-made, taken-values}
+use Rattle.means.proofs.sets.specimens.Statement.{statement}
+use Rattle.means.proofs.sets.specimens.Tie as tie
+
+refused-requires : tie.Need-refused-requires
+refused-requires c κs = search needs
+
+returns : tie.Need-returns
+returns c =
+    let a = c .before .before .args in
+    c .refused .ensures ∙ specimens-count (a .readings) (a .len) (c .before .if1 .taken)
+
+take-all-requires : tie.Need-take-all-requires
+take-all-requires c κs = search needs
+
+enum-known-outcome : tie.Need-enum-known-outcome
+enum-known-outcome c = search needs
+
+refused-requires-2 : tie.Need-refused-requires-2
+refused-requires-2 c κs = search needs
+
+enum-told : tie.Need-enum-told
+enum-told c = search needs
+
+means-requires : tie.Need-means-requires
+means-requires c κs =
+    let r = c .before .before .before in
+    let a = r .before .before .args in
+    (omega arith, ((λ j h. omega arith), taken-values (a .readings) (a .len) (r .take-all .result) (r .before .if1 .left) (r .take-all .ensures) (c .before .enum-told .given .1)))
+
+returns-2 : tie.Need-returns-2
+returns-2 c =
+    let r = c .before .before .before .before in
+    let a = r .before .before .args in
+    let w = c .before .before .outcome .given in
+    c .refused2 .ensures ∙ specimens-refused (a .readings) (a .len) (r .take-all .result) (r .before .if1 .left) (r .take-all .ensures) (w .0 .0) (w .1)
+
+returns-3 : tie.Need-returns-3
+returns-3 c =
+    let r = c .before .before .before .before in
+    let a = r .before .before .args in
+    specimens-made (a .readings) (a .len) (r .take-all .result) (r .before .if1 .left) (r .take-all .ensures) (c .means .result) (c .before .before .enum-told .given .1) (c .means .ensures)
+
+pub specimens-spec : {M : Type 1} → statement M
+specimens-spec =
+    tie.close
+    (tie.spec
+    refused-requires
+    returns
+    take-all-requires
+    enum-known-outcome
+    refused-requires-2
+    enum-told
+    means-requires
+    returns-2
+    returns-3)

@@ -1,0 +1,77 @@
+-- `products::covers::derived_set` meets its contract. The invariant: the derived levels so far. Assumes nothing.
+use mathlib.Core.Path.{ap}
+use native.Mathlib.Omega.{arith}
+use Prim.Native.Nat.{_-_, _≤_}
+use lib.IntN.{_-ℤ_}
+use Rattle.quantity.specs.Quantities.{bandOf}
+use Rattle.rating.proofs.Searched.{band-in}
+use Rattle.rooms.specs.Background.{tenths}
+use Rattle.means.proofs.Filling.{Filled, filled-none, filled-more, filled-whole}
+use Rattle.products.specs.Covers.{floorAt}
+use Rattle.products.proofs.Improvements.{derived-all}
+use Rattle.products.proofs.covers.derived_set.Statement.{statement}
+use Rattle.products.proofs.covers.derived_set.Tie as tie
+
+abbrev Inv-loop : tie.InvT-loop
+Inv-loop set values₀ i₀ values i =
+    (i ≤ 16) × Filled (λ j. tenths (floorAt j -ℤ bandOf set j)) 16 values i
+
+abbrev μ-loop : tie.MeasureT-loop
+μ-loop set values₀ i₀ values i = 16 - i
+
+loop-holds : tie.Need-loop-holds Inv-loop μ-loop
+loop-holds c =
+    let s = c .args .t1 in
+    (omega arith, filled-none (λ j. tenths (floorAt j -ℤ bandOf s j)) 16)
+
+mul-improvement : tie.Need-mul-improvement Inv-loop μ-loop
+mul-improvement c = omega arith
+
+element-copy-out-improvement : tie.Need-element-copy-out-improvement Inv-loop μ-loop
+element-copy-out-improvement c = omega arith
+
+derived-requires : tie.Need-derived-requires Inv-loop μ-loop
+derived-requires c κs =
+    let l = c .before .before in
+    (omega arith, band-in (l .before .args .t1) 16 (l .before .pre) (l .loop .i) (omega arith))
+
+mul-values : tie.Need-mul-values Inv-loop μ-loop
+mul-values c = omega arith
+
+array-set-from-values : tie.Need-array-set-from-values Inv-loop μ-loop
+array-set-from-values c = omega arith
+
+add-i : tie.Need-add-i Inv-loop μ-loop
+add-i c = omega arith
+
+loop-less : tie.Need-loop-less Inv-loop μ-loop
+loop-less c = omega arith
+
+loop-again : tie.Need-loop-again Inv-loop μ-loop
+loop-again c =
+    let l = c .before .before .before in
+    let s = l .before .args .t1 in
+    (omega arith, filled-more (λ j. tenths (floorAt j -ℤ bandOf s j)) 16 (l .loop .values) (l .loop .i) (c .derived .result) (omega arith) (ap tenths (c .derived .ensures)) (l .loop .inv .1))
+
+returns : tie.Need-returns Inv-loop μ-loop
+returns c =
+    let l = c .before in
+    let s = l .before .args .t1 in
+    derived-all s (l .loop .values) (filled-whole (λ j. tenths (floorAt j -ℤ bandOf s j)) 16 (l .loop .values) (l .loop .i) (omega arith) (l .loop .inv .1))
+
+pub derived-set-spec : {M : Type 1} → statement M
+derived-set-spec =
+    tie.close
+    (tie.spec
+    Inv-loop
+    μ-loop
+    loop-holds
+    mul-improvement
+    element-copy-out-improvement
+    derived-requires
+    mul-values
+    array-set-from-values
+    add-i
+    loop-less
+    loop-again
+    returns)

@@ -1,0 +1,9 @@
+-- Laws of sets of bands and their gains.
+pub mod Tests
+pub mod Bits
+pub mod Filters
+pub mod Order
+pub mod Enumeration
+pub mod Trial
+pub mod Counting
+pub mod Minimal

@@ -1,0 +1,158 @@
+-- `sets::gains::gains_at` meets its contract. The invariant: the gains of the bands passed, 0 from there on, and the total of
+-- their deficits. No value lacks less than a lifted one, so no difference is below 0. Assumes nothing.
+use mathlib.Core.Path.{_≡_, refl, _∙_, ap, ap₂}
+use mathlib.Core.Bool.{true}
+use Prim.Native.Nat.{ℕ, _*_, _-_, _≤_, _<_}
+use native.Mathlib.Omega.{arith}
+use borrow.Author.Needs.{needs}
+use lib.ListN.{length, getD, length-set}
+use lib.IntN.{ℤ}
+use Rattle.quantity.specs.Quantities.{inRange, bandOf}
+use Rattle.rating.proofs.Walks.{put-more, total-none, total-more}
+use Rattle.rating.proofs.Searched.{band-in}
+use Rattle.rating.specs.Levels.{at, levelBy, levelAt, totalAt, Entries}
+use Rattle.sets.specs.Gains.{gainAt}
+use Rattle.sets.specs.Highest.{highest}
+use Rattle.sets.proofs.Counting.{best-in, best-most, zeros, put-rest}
+use Rattle.sets.proofs.gains.gains_at.Statement.{statement}
+use Rattle.sets.proofs.gains.gains_at.Tie as tie
+
+abbrev Inv-loop : tie.InvT-loop
+Inv-loop bands airborne p set entries highest height each₀ total₀ i₀ each total i =
+    (i ≤ bands) × (length each ≡ 16) × ((j : ℕ) → j < i → getD each j 0 ≡ gainAt airborne set entries p j)
+    × ((j : ℕ) → i ≤ j → getD each j 0 ≡ 0) × (total ≡ totalAt (levelAt airborne set entries) i p) × (total ≤ 5000 * i)
+
+abbrev μ-loop : tie.MeasureT-loop
+μ-loop bands airborne p set entries highest height each₀ total₀ i₀ each total i = bands - i
+
+-- at a turn: the band's value and entry, and what the two deficits are
+value-in : (c : tie.In-loop Inv-loop μ-loop) → inRange (bandOf (c .before .before .before .args .t1) (c .before .loop .i)) ≡ true
+value-in c = let s = c .before .before .before in band-in (s .args .t1) (s .args .bands) (s .pre .1 .0) (c .before .loop .i) (c .loop-test .taken)
+
+entry-in : (c : tie.In-loop Inv-loop μ-loop) → Entries (c .before .before .before .args .airborne) (at (c .before .before .before .args .t4) (c .before .loop .i))
+entry-in c = let s = c .before .before .before in s .pre .1 .1 .0 (c .before .loop .i) (omega arith)
+
+lifted-is : (c : tie.After-lacking2 Inv-loop μ-loop) → let l = c .before .before .before .before .loop in
+    let a = c .before .before .before .before .before .before .args in
+    c .lacking2 .result ≡ 10 * a .p - levelBy (a .airborne) (highest (a .airborne)) (at (a .t4) (l .i))
+lifted-is c =
+    let l = c .before .before .before .before .loop in
+    let a = c .before .before .before .before .before .before .args in
+    c .lacking2 .ensures
+    ∙ ap (λ (z : ℤ). 10 * a .p - levelBy (a .airborne) z (at (a .t4) (l .i))) (c .before .before .before .before .before .best .ensures)
+
+best-requires : tie.Need-best-requires Inv-loop μ-loop
+best-requires c κs = search needs
+
+mul-height : tie.Need-mul-height Inv-loop μ-loop
+mul-height c = omega arith
+
+loop-holds : tie.Need-loop-holds Inv-loop μ-loop
+loop-holds c =
+    let a = c .before .args in
+    (omega arith, refl, λ j h. absurd (omega arith), λ j h. zeros j, total-none (levelAt (a .airborne) (a .t1) (a .t4)) (a .p), omega arith)
+
+mul-value : tie.Need-mul-value Inv-loop μ-loop
+mul-value c = omega arith
+
+element-copy-out-value : tie.Need-element-copy-out-value Inv-loop μ-loop
+element-copy-out-value c = omega arith
+
+mul-lacking : tie.Need-mul-lacking Inv-loop μ-loop
+mul-lacking c = omega arith
+
+array-read-lacking : tie.Need-array-read-lacking Inv-loop μ-loop
+array-read-lacking c = omega arith
+
+lacking-requires : tie.Need-lacking-requires Inv-loop μ-loop
+lacking-requires c κs = (value-in (c .before), entry-in (c .before))
+
+mul-lacking-2 : tie.Need-mul-lacking-2 Inv-loop μ-loop
+mul-lacking-2 c = omega arith
+
+array-read-lacking-2 : tie.Need-array-read-lacking-2 Inv-loop μ-loop
+array-read-lacking-2 c = omega arith
+
+lacking-requires-2 : tie.Need-lacking-requires-2 Inv-loop μ-loop
+lacking-requires-2 c κs =
+    let b = c .before .before .before .before in
+    (ap inRange (b .best .ensures) ∙ best-in (b .before .args .airborne), entry-in (c .before .before))
+
+sub-each : tie.Need-sub-each Inv-loop μ-loop
+sub-each c =
+    let l = c .before .before .before .before .loop in
+    let a = c .before .before .before .before .before .before .args in
+    omega (
+      arith,
+      c .before .lacking .ensures,
+      lifted-is c,
+      best-most (a .airborne) (bandOf (a .t1) (l .i)) (at (a .t4) (l .i)) (value-in (c .before .before .before)) (entry-in (c .before .before .before)),
+    )
+
+mul-each : tie.Need-mul-each Inv-loop μ-loop
+mul-each c = omega arith
+
+array-write-each : tie.Need-array-write-each Inv-loop μ-loop
+array-write-each c = omega arith
+
+add-total : tie.Need-add-total Inv-loop μ-loop
+add-total c = omega (arith, c .before .lacking .ensures)
+
+add-i : tie.Need-add-i Inv-loop μ-loop
+add-i c = omega arith
+
+loop-less : tie.Need-loop-less Inv-loop μ-loop
+loop-less c = omega arith
+
+loop-again : tie.Need-loop-again Inv-loop μ-loop
+loop-again c =
+    let b = c .before .before .before .before in
+    let l = b .loop in
+    let a = b .before .before .args in
+    let g : ℕ → ℕ = gainAt (a .airborne) (a .t1) (a .t4) (a .p) in
+    let v : ℕ = c .before .lacking .result - c .lacking2 .result in
+    let e : v ≡ g (l .i) = ap₂ _-_ (c .before .lacking .ensures) (lifted-is c) in (
+      omega arith,
+      length-set (l .each) (l .i) v ∙ l .inv .1,
+      put-more (l .each) (l .i) v g (omega arith) (l .inv .2) e,
+      put-rest (l .each) (l .i) v (l .inv .3),
+      total-more (levelAt (a .airborne) (a .t1) (a .t4)) (l .i) (a .p) (l .total) (c .before .lacking .result) (l .inv .4) (c .before .lacking .ensures),
+      omega (arith, c .before .lacking .ensures),
+    )
+
+returns : tie.Need-returns Inv-loop μ-loop
+returns c =
+    let l = c .before .loop in
+    let a = c .before .before .before .args in
+    let e : l .i ≡ a .bands = omega arith in
+    record {
+      each = λ j h. l .inv .2 j (omega arith);
+      rest = λ j h. l .inv .3 j (omega arith);
+      all = l .inv .4 ∙ ap (λ (n : ℕ). totalAt (levelAt (a .airborne) (a .t1) (a .t4)) n (a .p)) e;
+    }
+
+pub gains-at-spec : {M : Type 1} → statement M
+gains-at-spec =
+    tie.close
+    (tie.spec
+    Inv-loop
+    μ-loop
+    best-requires
+    mul-height
+    loop-holds
+    mul-value
+    element-copy-out-value
+    mul-lacking
+    array-read-lacking
+    lacking-requires
+    mul-lacking-2
+    array-read-lacking-2
+    lacking-requires-2
+    sub-each
+    mul-each
+    array-write-each
+    add-total
+    add-i
+    loop-less
+    loop-again
+    returns)

@@ -1,0 +1,85 @@
+// What lifting each band takes off the total of deficits at a position. Values and positions are counted as the rating counts
+// them: a better band has a greater level, a stricter position a greater p, and the deficit is 10 p less the level.
+use quantity::BandSet;
+use quantity::Tenths;
+use quantity::signed::above;
+use quantity::signed::below;
+ghost use mathlib.Core.Path.{_≡_};
+ghost use mathlib.Core.Bool.{true};
+ghost use Prim.Native.Nat.{ℕ, _-_, _≤_, _<_};
+ghost use Rattle.quantity.specs.Quantities.{inRange};
+ghost use Rattle.rating.specs.Bands.{accepted};
+ghost use Rattle.rating.specs.Levels.{at, levelBy, Entries};
+ghost use Rattle.sets.specs.Highest.{highest};
+ghost use Rattle.sets.specs.Gains.{Countable, Gained};
+
+// The gain of each band, and the total of the deficits.
+pub struct Gains {
+    pub each: [u32; 16],
+    pub total: u32,
+}
+
+// What a number is counted from an origin: above it for airborne, below it for impact.
+pub fn counted(z: i32, airborne: bool, origin: u32) -> u32
+    requires { ⌜ Countable airborne z origin ⌝ }
+    ensures { λ r. ⌜ r ≡ levelBy airborne z origin ⌝ }
+{
+    if airborne {
+        above(z, origin)
+    } else {
+        below(z, origin)
+    }
+}
+
+// How far a level stays below a height.
+fn short_of(height: u32, level: u32) -> u32
+    ensures { λ r. ⌜ r ≡ height - level ⌝ }
+{
+    if level < height {
+        return height - level;
+    }
+    0
+}
+
+// The deficit of one band at ten times a position.
+fn lacking(value: Tenths, airborne: bool, entry: u32, height: u32) -> u32
+    requires { ⌜ inRange (value .0) ≡ true ⌝ }
+    requires { ⌜ Entries airborne entry ⌝ }
+    ensures { λ r. ⌜ r ≡ height - levelBy airborne (value .0) entry ⌝ }
+{
+    short_of(height, counted(value.0, airborne, entry))
+}
+
+// The value of a lifted band.
+fn best(airborne: bool) -> Tenths
+    ensures { λ r. ⌜ r .0 ≡ highest airborne ⌝ }
+{
+    if airborne {
+        return Tenths(1500);
+    }
+    Tenths(-200)
+}
+
+// The gain of each of the first `bands` bands at position p, and the total of their deficits there.
+pub fn gains_at(set: BandSet, bands: usize, airborne: bool, entries: [u32; 16], p: u32) -> Gains
+    requires { ⌜ bands ≤ 16 ⌝ }
+    requires { ⌜ accepted set bands ≡ true ⌝ }
+    requires { ⌜ ((i : ℕ) → i < 16 → Entries airborne (at entries i)) ⌝ }
+    requires { ⌜ p < 500 ⌝ }
+    ensures { λ r. ⌜ Gained airborne set entries bands p (r .each) (r .total) ⌝ }
+{
+    let highest = best(airborne);
+    let height = 10 * p;
+    let mut each = [0u32; 16];
+    let mut total = 0;
+    let mut i = 0;
+    while i < bands {
+        let value = set.values[i];
+        let now = lacking(value, airborne, entries[i], height);
+        let lifted = lacking(highest, airborne, entries[i], height);
+        each[i] = now - lifted;
+        total += now;
+        i += 1;
+    }
+    Gains { each, total }
+}
