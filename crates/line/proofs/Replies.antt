@@ -1,13 +1,15 @@
 -- What the code answers to what it read is what the request is answered; and the text of a reply. Assumes nothing.
 use mathlib.Core.Path.{_≡_, refl, sym, _∙_, ap, subst}
 use mathlib.Core.Bool.{Bool, true, false, cond, _&&_}
-use mathlib.Core.List.{List, [], _∷_, _++_, append-assoc}
-use Prim.Native.Nat.{ℕ, zero, suc, _+_, _≤_, _<_}
+use mathlib.Core.List.{List, [], _∷_, _++_, map, append-assoc}
+use Prim.Native.Nat.{ℕ, zero, suc, _+_, _-_, _≤_, _<_}
 use native.Mathlib.Omega.{arith}
 use borrow.Author.Tests.{le-leb, lt-leb, leb-true, leb-false, eq-eqb, ne-eqb, eqb-true, eqb-false}
 use lib.Dec.{leb, eqb}
-use lib.ListN.{length, take, drop, length-append, length-drop}
+use lib.IntN.{ℤ}
+use lib.ListN.{length, getD, replicate, take, drop, length-append, length-drop}
 use lib.Seq.{length-take-le}
+use Rattle.quantity.specs.Quantities.{inRange}
 use Rattle.quantity.specs.declared.quantities.Tenths.{Tenths}
 use Rattle.quantity.specs.declared.quantities.BandSet.{BandSet}
 use Rattle.quantity.specs.declared.refusals.Refusal.the-variants.{BandCount, NoReading, BandRange}
@@ -15,19 +17,22 @@ use Rattle.rating.specs.declared.kinds.Kind.{Kind}
 use Rattle.rating.specs.declared.kinds.Kind.the-variants.{A3, A1, I3, I1}
 use Rattle.rating.specs.declared.sheets.Rated.{Rated}
 use Rattle.rating.specs.declared.sheets.Rated.the-variants.{Refused}
+use Rattle.rating.specs.Bands.{accepted}
 use Rattle.rating.specs.Kinds.{bandsOf}
 use Rattle.rating.specs.Sheets.{ratedOf}
+use Rattle.rating.proofs.Walks.{all-made}
 use Rattle.request.specs.declared.bands.Gathered.{Gathered}
 use Rattle.request.specs.declared.heads.Named.{Named}
 use Rattle.request.specs.declared.heads.Named.the-variants as named
 use Rattle.line.specs.declared.requests.Reply.{Reply}
 use Rattle.answer.specs.Texts.{others, lineText, kindText, fieldsOf, ratedText, noRequestText}
 use Rattle.request.specs.Texts.{Band}
+use Rattle.request.specs.Texts.Band.{missing, level}
 use Rattle.request.specs.Reading.{byteAt, Bands, bandsFrom, bandsAt, keySpan, kindAt, Asked, withBands, withKey, withKind, requestAt}
 use Rattle.request.specs.Reading.Bands.{broken, ended}
 use Rattle.request.specs.Reading.Asked.{asked}
-use Rattle.request.specs.Gathering.{firstFault, marksOf, valuesOf, Holds, GatheredAt}
-use Rattle.line.specs.Answers.{setOf, judgedBy, judged, judgedIn, noReply, replyTo, replyAt, replyText, Keyed}
+use Rattle.request.specs.Gathering.{nought, valueOf, orElse, firstFault, marksOf, valuesOf, Holds, GatheredAt}
+use Rattle.line.specs.Answers.{setOf, judgedBy, judged, judgedIn, Clean, noReply, replyTo, replyAt, replyText, Keyed}
 use Rattle.request.proofs.Leaves.{inside}
 use Rattle.request.proofs.Stands.{Stands, fits}
 use Rattle.request.proofs.Wholes.{BandsGood, bands-ok, span-most, kind-ok, kind-two, text-length, RequestAt, RequestGood, request-ok}
@@ -91,6 +96,35 @@ judged-same kind bands r h =
         (ap (λ (f : ℕ). judgedBy f set) (h .fault)
         ∙ ap (judgedBy (firstFault bands)) (sets (omega (arith, eqb-true (length bands) (bandsOf kind) e, sixteen kind))))
     go false e = rw e
+
+-- bands that give no refusal are in range, so that the set of them is accepted
+none-first : (z : ℤ) (n : ℕ) → orElse (cond (inRange z) 0 4) n ≡ 0 → inRange z ≡ true
+none-first z n e = go (inRange z) e
+  where
+    go : (t : Bool) → orElse (cond t 0 4) n ≡ 0 → t ≡ true
+    go true e = refl
+    go false e = absurd (omega (arith, e))
+
+none-after : (m n : ℕ) → orElse m n ≡ 0 → n ≡ 0
+none-after zero n e = e
+none-after (suc m) n e = absurd (omega (arith, e))
+
+in-range-at : (bs : List Band) (rest : List Tenths) (i : ℕ) → firstFault bs ≡ 0 → i < length bs → inRange (getD (map valueOf bs ++ rest) i nought .0) ≡ true
+unfolding firstFault
+in-range-at [] rest i e h = absurd (omega arith)
+in-range-at (missing ∷ bs) rest i e h = absurd (omega (arith, e))
+in-range-at (level limit z ∷ bs) rest zero e h = none-first z (firstFault bs) e
+in-range-at (level limit z ∷ bs) rest (suc i) e h = in-range-at bs rest i (none-after (cond (inRange z) 0 4) (firstFault bs) e) (omega arith)
+
+pub clean-of : (kind : Kind) (b : Bands) (r : Gathered) → GatheredAt b r → (r .next ≡ 0 → ⊥) → Clean kind r
+unfolding accepted valuesOf
+clean-of kind broken r g n = absurd (n g)
+clean-of kind (ended bands next) r g n = λ f c.
+    let h : Holds bands r = g .1 in
+    let few : length bands ≤ 16 = omega (arith, h .count, c, sixteen kind) in
+    all-made (λ i. inRange (getD (r .values) i nought .0)) (bandsOf kind)
+    (λ i q. ap (λ (v : List Tenths). inRange (getD v i nought .0)) (h .values few)
+    ∙ in-range-at bands (replicate (16 - length bands) nought) i (sym (h .fault) ∙ f) (omega (arith, h .count, c, q)))
 
 positive : (s : List ℕ) (at : ℕ) (b : Bands) (bs : List Band) (next : ℕ) → b ≡ ended bs next → BandsGood s at [] b → 0 < next
 unfolding Rattle.answer.specs.Texts.others

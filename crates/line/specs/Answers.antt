@@ -1,6 +1,7 @@
 -- Document 01, "Request and answer lines" and "Refusal numbers": what a request is answered, and what a whole run is.
 use mathlib.Core.Bool.{Bool, true, false, cond}
 use mathlib.Core.List.{List, [], _∷_, _++_}
+use mathlib.Core.Path.{_≡_}
 use Prim.Native.Nat.{ℕ, zero, suc, _+_, _≤_}
 use lib.Dec.{leb, eqb}
 use lib.ListN.{length, take, drop}
@@ -10,6 +11,7 @@ use Rattle.rating.specs.declared.kinds.Kind.{Kind}
 use Rattle.rating.specs.declared.kinds.Kind.the-variants.{A3}
 use Rattle.rating.specs.declared.sheets.Rated.{Rated}
 use Rattle.rating.specs.declared.sheets.Rated.the-variants.{Refused}
+use Rattle.rating.specs.Bands.{accepted}
 use Rattle.rating.specs.Kinds.{bandsOf}
 use Rattle.rating.specs.Sheets.{ratedOf}
 use Rattle.answer.specs.Texts.{ratedText, noRequestText}
@@ -100,6 +102,11 @@ judgedIn kind r =
     cond (eqb (r .count) (bandsOf kind))
     (judgedBy (r .fault) (ratedOf kind (record { values = r .values; marks = r .marks; len = r .count })))
     (Refused BandCount)
+
+-- where none of them gives a refusal, all are in range
+abbrev pub Clean : Kind → Gathered → Type 0
+Clean kind r =
+    r .fault ≡ 0 → r .count ≡ bandsOf kind → accepted (record { values = r .values; marks = r .marks; len = r .count }) (bandsOf kind) ≡ true
 
 -- the key of a reply stands within the line
 pub record Keyed (s : List ℕ) (r : Reply) : Type 0 where

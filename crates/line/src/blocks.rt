@@ -4,9 +4,13 @@ use crate::lines::answer_at;
 use crate::requests::Reply;
 use crate::requests::no_reply;
 use crate::requests::reply_at;
+use energy::level_starts;
+use energy::level_thresholds;
+use energy::scaled_powers;
 ghost use mathlib.Core.Path.{_≡_};
 ghost use Prim.Native.Nat.{_≤_, _-_};
 ghost use lib.ListN.{length};
+ghost use Rattle.energy.specs.Energies.{Tables};
 ghost use Rattle.line.specs.Answers.{noReply};
 ghost use Rattle.line.specs.Blocks.{feedAfter, pieceAt, stepAt, Turned, blockOf, Answered};
 
@@ -58,11 +62,19 @@ fn unasked(next: usize, skipping: bool) -> Piece
 }
 
 // The next piece that asks for an answer.
-fn piece_at(s: &[u8], at: usize, last: bool) -> Piece
+fn piece_at(
+    s: &[u8],
+    at: usize,
+    last: bool,
+    powers: &[u32; 901],
+    thresholds: &[u64; 120],
+    starts: &[u8; 895],
+) -> Piece
     requires { ⌜ at ≤ length (now s) ⌝ }
+    requires { ⌜ Tables (now powers) (now thresholds) (now starts) ⌝ }
     ensures { λ r. ⌜ r ≡ pieceAt (now (s .entry)) at last ⌝ }
 {
-    let reply = reply_at(s, at);
+    let reply = reply_at(s, at, powers, thresholds, starts);
     let next = reply.next;
     if next != 0 {
         return Piece {
@@ -85,9 +97,20 @@ fn piece_at(s: &[u8], at: usize, last: bool) -> Piece
 }
 
 // One turn: skip to the line feed, or answer the next piece if there is room.
-fn turn_at(s: &[u8], at: usize, out: &mut [u8], wrote: usize, skipping: bool, last: bool) -> Turn
+fn turn_at(
+    s: &[u8],
+    at: usize,
+    out: &mut [u8],
+    wrote: usize,
+    skipping: bool,
+    last: bool,
+    powers: &[u32; 901],
+    thresholds: &[u64; 120],
+    starts: &[u8; 895],
+) -> Turn
     requires { ⌜ at ≤ length (now s) ⌝ }
     requires { ⌜ wrote ≤ length (now out) ⌝ }
+    requires { ⌜ Tables (now powers) (now thresholds) (now starts) ⌝ }
     ensures { λ r. ⌜ Turned (stepAt (now (s .entry)) at (length (now (out .entry)) - wrote) skipping last) (now (out .entry)) wrote r (now (out .exit)) ⌝ }
 {
     if skipping {
@@ -105,7 +128,7 @@ fn turn_at(s: &[u8], at: usize, out: &mut [u8], wrote: usize, skipping: bool, la
             skipping: false,
         };
     }
-    let piece = piece_at(s, at, last);
+    let piece = piece_at(s, at, last, powers, thresholds, starts);
     let next = piece.next;
     let reply = piece.reply;
     if next != at {
@@ -124,16 +147,34 @@ fn turn_at(s: &[u8], at: usize, out: &mut [u8], wrote: usize, skipping: bool, la
     }
 }
 
-// Answers the whole lines of a part of the input for which the output has room, in order. `skipping` is what the call before
-// carried on; with `last` the input ends here, so that what is left is a line too.
-pub fn answer_block(input: &[u8], out: &mut [u8], skipping: bool, last: bool) -> Progress
+// All turns, with the tables lent.
+fn turns(
+    input: &[u8],
+    out: &mut [u8],
+    skipping: bool,
+    last: bool,
+    powers: &[u32; 901],
+    thresholds: &[u64; 120],
+    starts: &[u8; 895],
+) -> Progress
+    requires { ⌜ Tables (now powers) (now thresholds) (now starts) ⌝ }
     ensures { λ r. ⌜ Answered (blockOf (now (input .entry)) (length (now (out .entry))) skipping last) (now (input .entry)) (now (out .entry)) r (now (out .exit)) ⌝ }
 {
     let mut used = 0usize;
     let mut wrote = 0usize;
     let mut skip = skipping;
     while used < input.len() {
-        let t = turn_at(input, used, out, wrote, skip, last);
+        let t = turn_at(
+            input,
+            used,
+            out,
+            wrote,
+            skip,
+            last,
+            powers,
+            thresholds,
+            starts,
+        );
         if t.next == used {
             break;
         }
@@ -146,4 +187,15 @@ pub fn answer_block(input: &[u8], out: &mut [u8], skipping: bool, last: bool) ->
         wrote,
         skipping: skip,
     }
+}
+
+// Answers the whole lines of a part of the input for which the output has room, in order. `skipping` is what the call before
+// carried on; with `last` the input ends here, so that what is left is a line too. The tables are laid out once for all lines.
+pub fn answer_block(input: &[u8], out: &mut [u8], skipping: bool, last: bool) -> Progress
+    ensures { λ r. ⌜ Answered (blockOf (now (input .entry)) (length (now (out .entry))) skipping last) (now (input .entry)) (now (out .entry)) r (now (out .exit)) ⌝ }
+{
+    let powers = scaled_powers();
+    let thresholds = level_thresholds();
+    let starts = level_starts();
+    turns(input, out, skipping, last, &powers, &thresholds, &starts)
 }

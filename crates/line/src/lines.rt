@@ -6,6 +6,9 @@ use answer::put_head;
 use answer::put_none;
 use answer::put_rated;
 use answer::rated_len;
+use energy::level_starts;
+use energy::level_thresholds;
+use energy::scaled_powers;
 use quantity::Refusal;
 ghost use mathlib.Core.Path.{_≡_};
 ghost use Prim.Native.Nat.{_≤_};
@@ -71,7 +74,10 @@ fn line_reply(line: &[u8]) -> Reply
     ensures { λ r. ⌜ replyText (now (line .entry)) r ≡ answerOf (now (line .entry)) ⌝ }
     ensures { λ r. ⌜ Keyed (now (line .entry)) r ⌝ }
 {
-    let reply = reply_at(line, 0);
+    let powers = scaled_powers();
+    let thresholds = level_thresholds();
+    let starts = level_starts();
+    let reply = reply_at(line, 0, &powers, &thresholds, &starts);
     if reply.next == line.len() {
         return reply;
     }

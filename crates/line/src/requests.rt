@@ -3,7 +3,7 @@ use quantity::BandSet;
 use quantity::Refusal;
 use rating::Kind;
 use rating::Rated;
-use rating::rate;
+use rating::sheet_of;
 use request::Gathered;
 use request::Named;
 use request::bands_at;
@@ -13,9 +13,10 @@ use request::kind_at;
 ghost use mathlib.Core.Path.{_≡_};
 ghost use Prim.Native.Nat.{_+_, _<_};
 ghost use lib.ListN.{length, drop};
+ghost use Rattle.energy.specs.Energies.{Tables};
 ghost use Rattle.rating.specs.Kinds.{bandsOf};
 ghost use Rattle.request.specs.Reading.{keySpan, withKey};
-ghost use Rattle.line.specs.Answers.{noReply, replyAt, replyTo, judgedIn};
+ghost use Rattle.line.specs.Answers.{noReply, replyAt, replyTo, judgedIn, Clean};
 
 // A request: the position after it (0 for none), its kind, where its key stands and how long it is, and what it is answered.
 pub struct Reply {
@@ -39,7 +40,15 @@ fn bands_of(kind: Kind) -> usize
 }
 
 // What a request is answered: 1 where the number of bands is not the kind's, then the first refusal of a band, then its sheet.
-fn judge(kind: Kind, bands: Gathered) -> Rated
+fn judge(
+    kind: Kind,
+    bands: Gathered,
+    powers: &[u32; 901],
+    thresholds: &[u64; 120],
+    starts: &[u8; 895],
+) -> Rated
+    requires { ⌜ Clean kind bands ⌝ }
+    requires { ⌜ Tables (now powers) (now thresholds) (now starts) ⌝ }
     ensures { λ r. ⌜ r ≡ judgedIn kind bands ⌝ }
 {
     let count = bands.count;
@@ -54,14 +63,12 @@ fn judge(kind: Kind, bands: Gathered) -> Rated
         return Rated::Refused(Refusal::BandRange);
     }
     let values = bands.values;
-    rate(
-        kind,
-        BandSet {
-            values,
-            marks: bands.marks,
-            len: count,
-        },
-    )
+    let set = BandSet {
+        values,
+        marks: bands.marks,
+        len: count,
+    };
+    Rated::Rating(sheet_of(kind, set, powers, thresholds, starts))
 }
 
 pub fn no_reply() -> Reply
@@ -77,8 +84,16 @@ pub fn no_reply() -> Reply
 }
 
 // The key and the bands of a request that starts `at`.
-fn keyed(s: &[u8], at: usize, kind: Kind) -> Reply
+fn keyed(
+    s: &[u8],
+    at: usize,
+    kind: Kind,
+    powers: &[u32; 901],
+    thresholds: &[u64; 120],
+    starts: &[u8; 895],
+) -> Reply
     requires { ⌜ at + 2 < length (now s) ⌝ }
+    requires { ⌜ Tables (now powers) (now thresholds) (now starts) ⌝ }
     ensures { λ r. ⌜ r ≡ replyTo at (withKey kind (now (s .entry)) (at + 3) (keySpan (drop (at + 3) (now (s .entry))))) ⌝ }
 {
     let key = at + 3;
@@ -100,7 +115,7 @@ fn keyed(s: &[u8], at: usize, kind: Kind) -> Reply
     if at + 512 < next {
         return no_reply();
     }
-    let rated = judge(kind, bands);
+    let rated = judge(kind, bands, powers, thresholds, starts);
     Reply {
         next,
         kind,
@@ -111,7 +126,14 @@ fn keyed(s: &[u8], at: usize, kind: Kind) -> Reply
 }
 
 // The request at a position, with its answer.
-pub fn reply_at(s: &[u8], at: usize) -> Reply
+pub fn reply_at(
+    s: &[u8],
+    at: usize,
+    powers: &[u32; 901],
+    thresholds: &[u64; 120],
+    starts: &[u8; 895],
+) -> Reply
+    requires { ⌜ Tables (now powers) (now thresholds) (now starts) ⌝ }
     ensures { λ r. ⌜ r ≡ replyAt (now (s .entry)) at ⌝ }
 {
     let named = kind_at(s, at);
@@ -121,7 +143,7 @@ pub fn reply_at(s: &[u8], at: usize) -> Reply
             if byte(s, at + 2) != 9 {
                 return no_reply();
             }
-            keyed(s, at, kind)
+            keyed(s, at, kind, powers, thresholds, starts)
         }
     }
 }

@@ -48,7 +48,7 @@ returns-3 : tie.Need-returns-3
 returns-3 c =
     let a = c .before .before .before .before .before .before .before .args in
     let r = c .before .before .before .before .before .reply-at in
-    c .unasked2 .ensures ∙ piece-long (a .s .now) (a .at) (a .last) (r .result) (r .ensures) (c .before .before .before .feed-after .result) (c .before .before .before .before .if1 .left) (c .before .before .before .feed-after .ensures) (c .before .before .if2 .left) (c .before .before .before .before .before .before .before .pre) (c .before .if3 .taken)
+    c .unasked2 .ensures ∙ piece-long (a .s .now) (a .at) (a .last) (r .result) (r .ensures) (c .before .before .before .feed-after .result) (c .before .before .before .before .if1 .left) (c .before .before .before .feed-after .ensures) (c .before .before .if2 .left) (c .before .before .before .before .before .before .before .pre .0) (c .before .if3 .taken)
 
 -- src/blocks.rt:82:9
 unasked-requires-3 : tie.Need-unasked-requires-3
@@ -59,7 +59,7 @@ returns-4 : tie.Need-returns-4
 returns-4 c =
     let a = c .before .before .before .before .before .before .before .before .args in
     let r = c .before .before .before .before .before .before .reply-at in
-    c .unasked3 .ensures ∙ piece-last (a .s .now) (a .at) (a .last) (r .result) (r .ensures) (c .before .before .before .before .feed-after .result) (c .before .before .before .before .before .if1 .left) (c .before .before .before .before .feed-after .ensures) (c .before .before .before .if2 .left) (c .before .before .before .before .before .before .before .before .pre) (c .before .before .if3 .left) (c .before .if4 .taken)
+    c .unasked3 .ensures ∙ piece-last (a .s .now) (a .at) (a .last) (r .result) (r .ensures) (c .before .before .before .before .feed-after .result) (c .before .before .before .before .before .if1 .left) (c .before .before .before .before .feed-after .ensures) (c .before .before .before .if2 .left) (c .before .before .before .before .before .before .before .before .pre .0) (c .before .before .if3 .left) (c .before .if4 .taken)
 
 -- src/blocks.rt:84:5
 unasked-requires-4 : tie.Need-unasked-requires-4
@@ -70,7 +70,7 @@ returns-5 : tie.Need-returns-5
 returns-5 c =
     let a = c .before .before .before .before .before .before .before .before .args in
     let r = c .before .before .before .before .before .before .reply-at in
-    c .unasked4 .ensures ∙ piece-wait (a .s .now) (a .at) (a .last) (r .result) (r .ensures) (c .before .before .before .before .feed-after .result) (c .before .before .before .before .before .if1 .left) (c .before .before .before .before .feed-after .ensures) (c .before .before .before .if2 .left) (c .before .before .before .before .before .before .before .before .pre) (c .before .before .if3 .left) (c .before .if4 .left)
+    c .unasked4 .ensures ∙ piece-wait (a .s .now) (a .at) (a .last) (r .result) (r .ensures) (c .before .before .before .before .feed-after .result) (c .before .before .before .before .before .if1 .left) (c .before .before .before .before .feed-after .ensures) (c .before .before .before .if2 .left) (c .before .before .before .before .before .before .before .before .pre .0) (c .before .before .if3 .left) (c .before .if4 .left)
 
 pub piece-at-spec : {M : Type 1} → statement M
 piece-at-spec =

@@ -19,13 +19,13 @@ feed-after-requires c κs = search needs
 returns : tie.Need-returns
 returns c =
     let a = c .before .before .before .before .before .args in
-    turn-past (a .s .now) (a .at) (a .out .now) (a .wrote) (a .skipping) (a .last) (c .before .before .before .before .before .pre .1) (c .before .feed-after .result) (c .before .before .if1 .taken) (c .before .feed-after .ensures) (c .if2 .taken)
+    turn-past (a .s .now) (a .at) (a .out .now) (a .wrote) (a .skipping) (a .last) (c .before .before .before .before .before .pre .1 .0) (c .before .feed-after .result) (c .before .before .if1 .taken) (c .before .feed-after .ensures) (c .if2 .taken)
 
 -- src/blocks.rt:102:9
 returns-2 : tie.Need-returns-2
 returns-2 c =
     let a = c .before .before .before .before .before .args in
-    turn-skipped (a .s .now) (a .at) (a .out .now) (a .wrote) (a .skipping) (a .last) (c .before .before .before .before .before .pre .1) (c .before .feed-after .result) (c .before .before .if1 .taken) (c .before .feed-after .ensures) (c .if2 .left)
+    turn-skipped (a .s .now) (a .at) (a .out .now) (a .wrote) (a .skipping) (a .last) (c .before .before .before .before .before .pre .1 .0) (c .before .feed-after .result) (c .before .before .if1 .taken) (c .before .feed-after .ensures) (c .if2 .left)
 
 -- src/blocks.rt:108:9
 piece-at-requires : tie.Need-piece-at-requires
@@ -42,12 +42,12 @@ enum-known-n : tie.Need-enum-known-n
 enum-known-n c = search needs
 
 -- src/blocks.rt:115:24
-add-t18 : tie.Need-add-t18
-add-t18 c =
+add-t21 : tie.Need-add-t21
+add-t21 c =
     let a = c .before .before .before .before .before .before .before .before .before .before .before .before .before .args in
     omega (
       arith,
-      turn-told (a .s .now) (a .at) (a .out .now) (a .wrote) (a .skipping) (a .last) (c .before .before .before .before .before .before .before .before .before .before .before .before .before .pre .1) (c .before .before .before .before .before .before .before .before .before .piece-at .result) (c .before .before .before .before .before .before .before .before .before .before .if1 .left) (c .before .before .before .before .before .before .before .before .before .piece-at .ensures) (c .before .before .before .before .before .before .before .if3 .taken) (c .before .before .before .before .before .answer-at .result) (c .before .before .before .before .before .answer-at .last .1 .1 .0)
+      turn-told (a .s .now) (a .at) (a .out .now) (a .wrote) (a .skipping) (a .last) (c .before .before .before .before .before .before .before .before .before .before .before .before .before .pre .1 .0) (c .before .before .before .before .before .before .before .before .before .piece-at .result) (c .before .before .before .before .before .before .before .before .before .before .if1 .left) (c .before .before .before .before .before .before .before .before .before .piece-at .ensures) (c .before .before .before .before .before .before .before .if3 .taken) (c .before .before .before .before .before .answer-at .result) (c .before .before .before .before .before .answer-at .last .1 .1 .0)
           (c .before .before .before .before .before .answer-at .ensures .0) (c .before .before .before .before .before .answer-at .ensures .1) (c .before .n .given .0 .0) (c .before .n .given .1) .0,
     )
 
@@ -55,7 +55,7 @@ add-t18 c =
 returns-3 : tie.Need-returns-3
 returns-3 c =
     let a = c .before .before .before .before .before .before .before .before .before .before .before .before .before .args in
-    turn-told (a .s .now) (a .at) (a .out .now) (a .wrote) (a .skipping) (a .last) (c .before .before .before .before .before .before .before .before .before .before .before .before .before .pre .1) (c .before .before .before .before .before .before .before .before .before .piece-at .result) (c .before .before .before .before .before .before .before .before .before .before .if1 .left) (c .before .before .before .before .before .before .before .before .before .piece-at .ensures) (c .before .before .before .before .before .before .before .if3 .taken) (c .before .before .before .before .before .answer-at .result) (c .before .before .before .before .before .answer-at .last .1 .1 .0)
+    turn-told (a .s .now) (a .at) (a .out .now) (a .wrote) (a .skipping) (a .last) (c .before .before .before .before .before .before .before .before .before .before .before .before .before .pre .1 .0) (c .before .before .before .before .before .before .before .before .before .piece-at .result) (c .before .before .before .before .before .before .before .before .before .before .if1 .left) (c .before .before .before .before .before .before .before .before .before .piece-at .ensures) (c .before .before .before .before .before .before .before .if3 .taken) (c .before .before .before .before .before .answer-at .result) (c .before .before .before .before .before .answer-at .last .1 .1 .0)
     (c .before .before .before .before .before .answer-at .ensures .0) (c .before .before .before .before .before .answer-at .ensures .1) (c .before .n .given .0 .0) (c .before .n .given .1) .1
 
 enum-told : tie.Need-enum-told
@@ -65,14 +65,14 @@ enum-told c = search needs
 returns-4 : tie.Need-returns-4
 returns-4 c =
     let a = c .before .before .before .before .before .before .before .before .before .before .before .before .args in
-    turn-full (a .s .now) (a .at) (a .out .now) (a .wrote) (a .skipping) (a .last) (c .before .before .before .before .before .before .before .before .before .before .before .before .pre .1) (c .before .before .before .before .before .before .before .before .piece-at .result) (c .before .before .before .before .before .before .before .before .before .if1 .left) (c .before .before .before .before .before .before .before .before .piece-at .ensures) (c .before .before .before .before .before .before .if3 .taken) (c .before .before .before .before .answer-at .result) (c .before .before .before .before .answer-at .last .1 .1 .0)
+    turn-full (a .s .now) (a .at) (a .out .now) (a .wrote) (a .skipping) (a .last) (c .before .before .before .before .before .before .before .before .before .before .before .before .pre .1 .0) (c .before .before .before .before .before .before .before .before .piece-at .result) (c .before .before .before .before .before .before .before .before .before .if1 .left) (c .before .before .before .before .before .before .before .before .piece-at .ensures) (c .before .before .before .before .before .before .if3 .taken) (c .before .before .before .before .answer-at .result) (c .before .before .before .before .answer-at .last .1 .1 .0)
     (c .before .before .before .before .answer-at .ensures .0) (c .before .before .before .before .answer-at .ensures .1) (c .enum-told .given .0 .0) (c .enum-told .given .1)
 
 -- src/blocks.rt:88:1
 returns-5 : tie.Need-returns-5
 returns-5 c =
     let a = c .before .before .before .before .before .before .args in
-    turn-none (a .s .now) (a .at) (a .out .now) (a .wrote) (a .skipping) (a .last) (c .before .before .before .before .before .before .pre .1) (c .before .before .piece-at .result) (c .before .before .before .if1 .left) (c .before .before .piece-at .ensures) (c .if3 .left)
+    turn-none (a .s .now) (a .at) (a .out .now) (a .wrote) (a .skipping) (a .last) (c .before .before .before .before .before .before .pre .1 .0) (c .before .before .piece-at .result) (c .before .before .before .if1 .left) (c .before .before .piece-at .ensures) (c .if3 .left)
 
 -- src/blocks.rt:113:13
 same-length : tie.Need-same-length
@@ -92,7 +92,7 @@ turn-at-spec =
     piece-at-requires
     answer-at-requires
     enum-known-n
-    add-t18
+    add-t21
     same-length
     returns-3
     enum-told

@@ -11,15 +11,26 @@ use Rattle.line.proofs.requests.no_reply.Reads as no-reply-reads
 use Rattle.line.proofs.requests.reply_at.Reads as reply-at-reads
 
 -- src/lines.rt:74:9
+scaled-powers-requires : tie.Need-scaled-powers-requires
+scaled-powers-requires c κs = search needs
+
+level-thresholds-requires : tie.Need-level-thresholds-requires
+level-thresholds-requires c κs = search needs
+
+level-starts-requires : tie.Need-level-starts-requires
+level-starts-requires c κs = search needs
+
 reply-at-requires : tie.Need-reply-at-requires
-reply-at-requires c κs = search needs
+reply-at-requires c κs =
+    let t = c .before .before .before in
+    record { scaled = t .before .before .scaled-powers .ensures; reached = t .before .level-thresholds .ensures; started = t .level-starts .ensures }
 
 -- src/lines.rt:76:9
 returns : tie.Need-returns
 returns c =
-    let a = c .before .before .before .before .args in
-    let r = c .before .before .reply-at in
-    (line-whole (a .line .now) (r .result) (r .ensures) (c .if1 .taken), reply-keyed (a .line .now) 0 (r .result) (r .ensures))
+    let r = c .before .before in
+    let a = r .before .before .before .before .before .before .before .before .args in
+    (line-whole (a .line .now) (r .reply-at .result) (r .reply-at .ensures) (c .if1 .taken), reply-keyed (a .line .now) 0 (r .reply-at .result) (r .reply-at .ensures))
 
 -- src/lines.rt:78:5
 no-reply-requires : tie.Need-no-reply-requires
@@ -28,10 +39,10 @@ no-reply-requires c κs = search needs
 -- src/lines.rt:70:1
 returns-2 : tie.Need-returns-2
 returns-2 c =
-    let a = c .before .before .before .before .before .args in
-    let r = c .before .before .before .reply-at in
+    let r = c .before .before .before in
+    let a = r .before .before .before .before .before .before .before .before .args in
     let e = c .no-reply .ensures in
-    (ap (replyText (a .line .now)) e ∙ line-other (a .line .now) (r .result) (r .ensures) (c .before .if1 .left), subst (Keyed (a .line .now)) (sym e) (none-keyed (a .line .now)))
+    (ap (replyText (a .line .now)) e ∙ line-other (a .line .now) (r .reply-at .result) (r .reply-at .ensures) (c .before .if1 .left), subst (Keyed (a .line .now)) (sym e) (none-keyed (a .line .now)))
 
 pub line-reply-spec : {M : Type 1} → statement M
-line-reply-spec = tie.close (tie.spec reply-at-requires returns no-reply-requires returns-2)
+line-reply-spec = tie.close (tie.spec scaled-powers-requires level-thresholds-requires level-starts-requires reply-at-requires returns no-reply-requires returns-2)

@@ -1,6 +1,9 @@
 -- `line::requests::judge` meets its contract: the count, the first refusal of a band, or the sheet. Assumes nothing.
 use borrow.Author.Needs.{needs}
-use mathlib.Core.Path.{_∙_}
+use mathlib.Core.Path.{refl, _∙_}
+use Rattle.rating.specs.declared.sheets.Rated.the-variants.{Rating}
+use Rattle.rating.specs.Kinds.{bandsOf}
+use Rattle.rating.proofs.Rated.{in-order}
 use Rattle.line.proofs.Replies.{judge-count, judge-missing, judge-range, judge-sheet}
 use Rattle.line.proofs.requests.judge.Statement.{statement}
 use Rattle.line.proofs.requests.judge.Tie as tie
@@ -24,15 +27,22 @@ returns-3 c =
     judge-range (a .kind) (a .bands) (c .before .before .before .bands-of .result) (c .before .before .before .bands-of .ensures) (c .before .before .if1 .left)
     (c .before .if2 .left) (c .if3 .taken)
 
-rate-requires : tie.Need-rate-requires
-rate-requires c κs = search needs
+sheet-of-requires : tie.Need-sheet-of-requires
+sheet-of-requires c κs =
+    let e = c .before in
+    let b = e .before .before .before in
+    (b .before .pre .1, b .before .pre .0 (e .if3 .left) (e .before .before .if1 .left ∙ b .bands-of .ensures))
 
 returns-4 : tie.Need-returns-4
 returns-4 c =
-    let a = c .before .before .before .before .before .before .args in
-    judge-sheet (a .kind) (a .bands) (c .before .before .before .before .before .bands-of .result) (c .rate .result) (c .before .before .before .before .before .bands-of .ensures)
-    (c .before .before .before .before .if1 .left) (c .before .before .if3 .left) (c .rate .ensures)
+    let e = c .before .before in
+    let b = e .before .before .before in
+    let a = b .before .args in
+    let n = e .before .before .if1 .left ∙ b .bands-of .ensures in
+    judge-sheet (a .kind) (a .bands) (b .bands-of .result) (Rating (c .sheet-of .result)) (b .bands-of .ensures) (e .before .before .if1 .left) (e .if3 .left)
+    (in-order (a .kind) (record { values = a .bands .values; marks = a .bands .marks; len = a .bands .count }) (bandsOf (a .kind)) (c .sheet-of .result) refl n
+    (b .before .pre .0 (e .if3 .left) n) (c .sheet-of .ensures))
 
 pub judge-spec : {M : Type 1} → statement M
 judge-spec =
-    tie.close (tie.spec bands-of-requires returns returns-2 returns-3 rate-requires returns-4)
+    tie.close (tie.spec bands-of-requires returns returns-2 returns-3 sheet-of-requires returns-4)

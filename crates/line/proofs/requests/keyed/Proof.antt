@@ -1,6 +1,8 @@
 use mathlib.Core.Path.{_∙_}
+use Prim.Native.Nat.{_+_}
 use native.Mathlib.Omega.{arith}
-use Rattle.line.proofs.Replies.{key-none, key-long, bands-broken, bands-none, bands-far, bands-read}
+use Rattle.request.specs.Reading.{bandsAt}
+use Rattle.line.proofs.Replies.{key-none, key-long, bands-broken, bands-none, bands-far, bands-read, clean-of}
 use borrow.Author.Needs.{needs}
 use Rattle.line.proofs.requests.keyed.Statement.{statement}
 use Rattle.line.proofs.requests.keyed.Tie as tie
@@ -88,7 +90,11 @@ returns-5 c =
 
 -- src/requests.rt:103:9
 judge-requires : tie.Need-judge-requires
-judge-requires c κs = search needs
+judge-requires c κs =
+    let a = c .before .before .before .before .before .before .before .before .before .args in
+    let r = c .before .before .before .before .bands-at in
+    let k = c .before .before .before .before .before .before .before .key-span in
+    (clean-of (a .kind) (bandsAt (a .s .now) (a .at + 3 + k .result)) (r .result) (r .ensures) (c .before .before .before .if3 .left), c .before .before .before .before .before .before .before .before .before .pre .1)
 
 -- src/requests.rt:80:1
 returns-6 : tie.Need-returns-6

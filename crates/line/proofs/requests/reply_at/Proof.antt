@@ -59,7 +59,7 @@ keyed-requires c κs =
     let a = c .before .before .before .before .before .before .before .args in
     let w = c .before .before .before .named .given in
     let k = c .before .before .before .before .before .kind-at in
-    inside-byte (a .s .now) (a .at + 2) (c .before .byte .result) (c .before .byte .ensures) (omega arith)
+    (inside-byte (a .s .now) (a .at + 2) (c .before .byte .result) (c .before .byte .ensures) (omega arith), c .before .before .before .before .before .before .before .pre)
 
 -- src/requests.rt:114:1
 returns-2 : tie.Need-returns-2

@@ -1,0 +1,86 @@
+use mathlib.Core.Path.{_≡_, sym, _∙_, ap}
+use Prim.Native.Nat.{_-_}
+use native.Mathlib.Omega.{arith}
+use lib.ListN.{length}
+use Rattle.line.proofs.Runs.{Going, going-start, going-length, going-room, going-out, kept, going-still, going-on, turn-ahead}
+use Rattle.line.proofs.blocks.turns.Statement.{statement}
+use Rattle.line.proofs.blocks.turns.Tie as tie
+use Rattle.line.proofs.blocks.turns.Reads as reads
+use Rattle.line.proofs.blocks.turns.Lts as lts
+use Rattle.line.proofs.blocks.turn_at.Reads as turn-at-reads
+
+abbrev Inv-loop : tie.InvT-loop
+Inv-loop input out₀ skipping last powers thresholds starts used₀ wrote₀ skip₀ out used wrote skip = Going input out₀ skipping last used wrote skip out
+
+abbrev μ-loop : tie.MeasureT-loop
+μ-loop input out₀ skipping last powers thresholds starts used₀ wrote₀ skip₀ out used wrote skip = length input - used
+
+-- src/blocks.rt:135:5
+loop-holds : tie.Need-loop-holds Inv-loop μ-loop
+loop-holds c =
+    let a = c .before .before .args in
+    going-start (a .input .now) (a .out .now) (a .skipping) (a .last)
+
+-- src/blocks.rt:136:13
+turn-at-requires : tie.Need-turn-at-requires Inv-loop μ-loop
+turn-at-requires c κs =
+    let a = c .before .before .before .before .before .args in
+    let l = c .before .before .loop in
+    (l .inv .within, (going-room (a .input .now) (a .out .now) (a .skipping) (a .last) (l .used) (l .wrote) (l .skip) (l .out) (l .inv), c .before .before .before .before .before .pre))
+
+-- src/blocks.rt:135:5
+loop-less : tie.Need-loop-less Inv-loop μ-loop
+loop-less c =
+    let a = c .before .before .before .before .before .before .before .before .before .before .args in
+    let l = c .before .before .before .before .before .before .before .loop in
+    omega (arith, turn-ahead (a .input .now) (a .out .now) (a .skipping) (a .last) (l .used) (l .wrote) (l .skip) (l .out) (l .inv) (c .before .before .before .before .turn-at .result) (c .before .before .before .before .turn-at .last .1 .1 .0) (c .before .before .before .before .turn-at .ensures) (c .if1 .left))
+
+-- src/blocks.rt:135:5
+loop-again : tie.Need-loop-again Inv-loop μ-loop
+loop-again c =
+    let a = c .before .before .before .before .before .before .before .before .before .before .args in
+    let l = c .before .before .before .before .before .before .before .loop in
+    going-on (a .input .now) (a .out .now) (a .skipping) (a .last) (l .used) (l .wrote) (l .skip) (l .out) (l .inv) (c .before .before .before .before .turn-at .result) (c .before .before .before .before .turn-at .last .1 .1 .0) (c .before .before .before .before .turn-at .ensures) (c .before .before .before .before .before .before .loop-test .taken) (c .if1 .left)
+
+-- src/blocks.rt:129:1
+same-length : tie.Need-same-length Inv-loop μ-loop
+same-length c =
+    let a = c .before .before .before .before .args in
+    let l = c .before .loop in
+    going-length (a .input .now) (a .out .now) (a .skipping) (a .last) (l .used) (l .wrote) (l .skip) (l .out) (l .inv)
+
+-- src/blocks.rt:129:1
+returns : tie.Need-returns Inv-loop μ-loop
+returns c =
+    let a = c .before .before .before .before .args in
+    let l = c .before .loop in
+    going-out (a .input .now) (a .out .now) (a .skipping) (a .last) (l .used) (l .wrote) (l .skip) (l .out) (l .inv) (c .loop-test .left)
+
+-- src/blocks.rt:129:1
+same-length-2 : tie.Need-same-length-2 Inv-loop μ-loop
+same-length-2 c =
+    let a = c .before .before .before .before .before .before .before .before .before .before .args in
+    let l = c .before .before .before .before .before .before .before .loop in
+    ap length (sym (kept (a .input .now) (a .out .now) (a .skipping) (a .last) (l .used) (l .wrote) (l .skip) (l .out) (l .inv) (c .before .before .before .before .turn-at .result) (c .before .before .before .before .turn-at .last .1 .1 .0) (c .before .before .before .before .turn-at .ensures) (c .if1 .taken))) ∙ going-length (a .input .now) (a .out .now) (a .skipping) (a .last) (l .used) (l .wrote) (l .skip) (l .out) (l .inv)
+
+-- src/blocks.rt:129:1
+returns-2 : tie.Need-returns-2 Inv-loop μ-loop
+returns-2 c =
+    let a = c .before .before .before .before .before .before .before .before .before .before .args in
+    let l = c .before .before .before .before .before .before .before .loop in
+    going-still (a .input .now) (a .out .now) (a .skipping) (a .last) (l .used) (l .wrote) (l .skip) (l .out) (l .inv) (c .before .before .before .before .turn-at .result) (c .before .before .before .before .turn-at .last .1 .1 .0) (c .before .before .before .before .turn-at .ensures) (c .if1 .taken)
+
+pub turns-spec : {M : Type 1} → statement M
+turns-spec =
+    tie.close
+    (tie.spec
+    Inv-loop
+    μ-loop
+    loop-holds
+    turn-at-requires
+    loop-less
+    loop-again
+    same-length
+    returns
+    same-length-2
+    returns-2)
