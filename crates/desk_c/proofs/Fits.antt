@@ -25,9 +25,8 @@ use Rattle.rating.specs.Sheets.{asked, sheetOf, ratedOf}
 use Rattle.products.specs.declared.grades.Side.{Side}
 use Rattle.means.specs.Sets.{specimensOf}
 use Rattle.products.specs.Grades.{gradeOf, decidingOf, gradedBy, graded, gradesOf}
+use Rattle.door.specs.Given.{Fitting, GradeFits}
 use Rattle.desk.specs.Calls.{ratedBy, readingsRated}
-use Rattle.desk_c.specs.Ratings.{Fitting}
-use Rattle.desk_c.specs.Rooms.{GradeFits}
 
 first-bound : (ok : ℕ → Bool) (tries s : ℕ) → firstFrom ok tries s ≤ s + tries
 unfolding firstFrom

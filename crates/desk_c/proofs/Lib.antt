@@ -1,8 +1,5 @@
--- Laws of the C door.
-pub mod Doors
-pub mod Fronts
-pub mod Listing
+-- Laws of the C calls.
 pub mod Fits
-pub mod Gives
+pub mod Named
 pub mod Lifting
 pub mod Lining

@@ -25,13 +25,14 @@ use Rattle.lift.specs.declared.lists.Lifted.the-variants.{Count, Refused}
 use Rattle.lift.specs.Reach.{betterBy, liftList}
 use Rattle.lift.specs.Calls.{inTargets, placesOf, tested, countOf, answerBy, answerOf, bufferBy}
 use Rattle.lift.proofs.Listing.{list-room}
-use Rattle.desk_c.specs.declared.kinds.Named.{Named}
-use Rattle.desk_c.specs.declared.kinds.Named.the-variants.{Is, Unknown}
-use Rattle.desk_c.specs.Answers.{Answer, returned, held}
-use Rattle.desk_c.specs.Answers.Answer.{numbers}
-use Rattle.desk_c.specs.Lists.{setFrom}
-use Rattle.desk_c.specs.Ratings.{kindOf, byKind}
-use Rattle.desk_c.proofs.Fronts.{stored}
+use Rattle.door.specs.declared.kinds.Named.{Named}
+use Rattle.door.specs.declared.kinds.Named.the-variants.{Is, Unknown}
+use Rattle.door.specs.Answers.{Answer, returned, held}
+use Rattle.door.specs.Answers.Answer.{numbers}
+use Rattle.door.specs.Kinds.{kindOf}
+use Rattle.door.specs.Lists.{setFrom}
+use Rattle.door.proofs.Fronts.{stored}
+use Rattle.desk_c.specs.Ratings.{byKind}
 use Rattle.desk_c.specs.Lifts.{countAnswer, listBy, liftAnswer, keptOr, liftHeld}
 
 -- what the call leaves: its result, its list and its count

@@ -15,10 +15,10 @@ use Rattle.line.specs.declared.lines.Wrote.the-variants.{Bytes, Refused}
 use Rattle.line.specs.declared.blocks.Progress.{Progress}
 use Rattle.line.specs.Answers.{answerOf, fitsAt, placed, wroteOf}
 use Rattle.line.specs.Blocks.{Block, blockOf, Answered}
-use Rattle.desk_c.specs.Answers.{Answer, returned, held}
-use Rattle.desk_c.specs.Answers.Answer.{refused, numbers}
+use Rattle.door.specs.Answers.{Answer, returned, held}
+use Rattle.door.specs.Answers.Answer.{refused, numbers}
+use Rattle.door.proofs.Fronts.{written-none, written-more, written-all, stored}
 use Rattle.desk_c.specs.Lines.{wroteAnswer, lineAnswer, lineHeld, isSet, bitOf, blockNumbers, blockBy, blockAnswer, blockHeld}
-use Rattle.desk_c.proofs.Fronts.{written-none, written-more, written-all, stored}
 
 pub is-set : (n : ℕ) → (n ≡ 0 → ⊥) → true ≡ isSet n
 is-set zero h = absurd (h refl)

@@ -1,6 +1,4 @@
--- What the C door adds to the definitions: numbers for kinds and readings, and answers in lent arrays.
-pub mod Answers
-pub mod Lists
+-- The answer of each C call.
 pub mod Ratings
 pub mod Rooms
 pub mod Lifts

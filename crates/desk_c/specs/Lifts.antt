@@ -13,12 +13,13 @@ use Rattle.lift.specs.declared.lists.Lifted.{Lifted}
 use Rattle.lift.specs.declared.lists.Lifted.the-variants.{Count, Refused}
 use Rattle.lift.specs.Reach.{liftList}
 use Rattle.lift.specs.Calls.{answerOf, bufferBy}
-use Rattle.desk_c.specs.declared.kinds.Named.{Named}
-use Rattle.desk_c.specs.declared.kinds.Named.the-variants.{Is, Unknown}
-use Rattle.desk_c.specs.Answers.{Answer}
-use Rattle.desk_c.specs.Answers.Answer.{refused, numbers}
-use Rattle.desk_c.specs.Lists.{setFrom}
-use Rattle.desk_c.specs.Ratings.{kindOf, byKind}
+use Rattle.door.specs.declared.kinds.Named.{Named}
+use Rattle.door.specs.declared.kinds.Named.the-variants.{Is, Unknown}
+use Rattle.door.specs.Answers.{Answer}
+use Rattle.door.specs.Answers.Answer.{refused, numbers}
+use Rattle.door.specs.Kinds.{kindOf}
+use Rattle.door.specs.Lists.{setFrom}
+use Rattle.desk_c.specs.Ratings.{byKind}
 
 -- the count
 abbrev pub countAnswer : Lifted → Answer ℤ

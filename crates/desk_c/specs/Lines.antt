@@ -9,8 +9,8 @@ use Rattle.line.specs.declared.lines.Wrote.{Wrote}
 use Rattle.line.specs.declared.lines.Wrote.the-variants.{Bytes, Refused}
 use Rattle.line.specs.Answers.{answerOf, placed, wroteOf}
 use Rattle.line.specs.Blocks.{Block, blockOf}
-use Rattle.desk_c.specs.Answers.{Answer, front}
-use Rattle.desk_c.specs.Answers.Answer.{refused, numbers}
+use Rattle.door.specs.Answers.{Answer, front}
+use Rattle.door.specs.Answers.Answer.{refused, numbers}
 
 -- imbrolt_line: the length of the answer line
 abbrev pub wroteAnswer : Wrote → Answer ℕ

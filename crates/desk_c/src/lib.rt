@@ -3,11 +3,8 @@
 // Each function returns 0 or the refusal's number. Its answer goes to a lent array, from the array's start; places past the
 // answer keep their contents, and on a refusal the whole array does. A lent array that is too small is refusal 10, tested
 // last. The promise of each says what it returns and what every lent array holds afterwards, for all inputs.
-mod given;
-mod kinds;
 mod lifts;
 mod lines;
-mod lists;
 mod measured;
 mod ratings;
 

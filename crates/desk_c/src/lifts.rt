@@ -1,7 +1,7 @@
 // The lift list.
-use crate::kinds::Named;
-use crate::kinds::kind_of;
-use crate::lists::set_from;
+use door::Named;
+use door::kind_of;
+use door::set_from;
 use lift::Lifted;
 use quantity::BandSet;
 use quantity::Decibels;
@@ -9,7 +9,7 @@ use rating::Kind;
 ghost use mathlib.Core.Path.{_≡_};
 ghost use lib.ListN.{length};
 ghost use Rattle.lift.specs.Calls.{answerOf};
-ghost use Rattle.desk_c.specs.Answers.{returned, held};
+ghost use Rattle.door.specs.Answers.{returned, held};
 ghost use Rattle.desk_c.specs.Lifts.{countAnswer, listBy, liftAnswer, liftHeld};
 
 // The number that the call gives where there is no room for the count: that of any other refusal, else 10. A list of its own

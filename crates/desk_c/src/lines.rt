@@ -3,7 +3,7 @@
 use line::Wrote;
 ghost use mathlib.Core.Path.{_≡_};
 ghost use lib.ListN.{length};
-ghost use Rattle.desk_c.specs.Answers.{returned, held};
+ghost use Rattle.door.specs.Answers.{returned, held};
 ghost use Rattle.desk_c.specs.Lines.{lineAnswer, lineHeld, isSet, bitOf, blockAnswer, blockHeld};
 
 // The answer to one line, from place `at` of `out`, and its length.

@@ -1,17 +1,17 @@
 // Rooms, specimens, covers, doors and windows.
-use crate::given::give_cover;
-use crate::given::give_graded;
-use crate::given::give_level;
-use crate::given::give_set;
-use crate::given::give_taken;
-use crate::kinds::side_of;
-use crate::lists::readings_from;
-use crate::lists::set_from;
+use door::give_cover;
+use door::give_graded;
+use door::give_level;
+use door::give_set;
+use door::give_taken;
+use door::readings_from;
+use door::set_from;
+use door::side_of;
 use quantity::Tenths;
 use rooms::RawBand;
 ghost use mathlib.Core.Path.{_≡_};
 ghost use lib.ListN.{length};
-ghost use Rattle.desk_c.specs.Answers.{returned, held};
+ghost use Rattle.door.specs.Answers.{returned, held};
 ghost use Rattle.desk_c.specs.Rooms.{fieldAnswer, laboratoryAnswer, rawAnswer, octavesAnswer, specimensAnswer, coverAnswer, gradeAnswer};
 
 // A level corrected by the field rule, and its mark.

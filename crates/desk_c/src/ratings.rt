@@ -1,14 +1,14 @@
 // Readings and ratings.
-use crate::given::give_rated;
-use crate::given::give_taken;
-use crate::kinds::Named;
-use crate::kinds::kind_of;
-use crate::lists::reading_from;
-use crate::lists::readings_from;
-use crate::lists::set_from;
+use door::Named;
+use door::give_rated;
+use door::give_taken;
+use door::kind_of;
+use door::reading_from;
+use door::readings_from;
+use door::set_from;
 ghost use mathlib.Core.Path.{_≡_};
 ghost use lib.ListN.{length};
-ghost use Rattle.desk_c.specs.Answers.{returned, held};
+ghost use Rattle.door.specs.Answers.{returned, held};
 ghost use Rattle.desk_c.specs.Ratings.{readingAnswer, rateAnswer, readingsAnswer};
 
 // One reading: its tenths and its mark.

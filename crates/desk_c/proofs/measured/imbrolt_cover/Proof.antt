@@ -2,8 +2,9 @@
 use borrow.Author.Needs.{needs}
 use mathlib.Core.Path.{_∙_, ap}
 use Rattle.products.specs.Covers.{coverOf}
-use Rattle.desk_c.specs.Rooms.{coverNumbers, coverAnswer}
-use Rattle.desk_c.proofs.Gives.{given}
+use Rattle.door.specs.Given.{coverNumbers}
+use Rattle.door.proofs.Gives.{given}
+use Rattle.desk_c.specs.Rooms.{coverAnswer}
 use Rattle.desk_c.proofs.measured.imbrolt_cover.Statement.{statement}
 use Rattle.desk_c.proofs.measured.imbrolt_cover.Tie as tie
 

@@ -6,8 +6,9 @@ use lib.ListN.{length}
 use Rattle.quantity.specs.declared.quantities.Reading.{Reading}
 use Rattle.products.specs.declared.grades.Side.{Side}
 use Rattle.products.specs.Grades.{gradesOf}
-use Rattle.desk_c.specs.Rooms.{gradedAnswer, gradeAnswer, GradeFits}
-use Rattle.desk_c.proofs.Gives.{given}
+use Rattle.door.specs.Given.{gradedAnswer, GradeFits}
+use Rattle.door.proofs.Gives.{given}
+use Rattle.desk_c.specs.Rooms.{gradeAnswer}
 use Rattle.desk_c.proofs.Fits.{grades-fit}
 use Rattle.desk_c.proofs.measured.imbrolt_grade.Statement.{statement}
 use Rattle.desk_c.proofs.measured.imbrolt_grade.Tie as tie

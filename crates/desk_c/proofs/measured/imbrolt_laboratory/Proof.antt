@@ -3,9 +3,9 @@ use borrow.Author.Needs.{needs}
 use mathlib.Core.Path.{_∙_, ap, ap₂}
 use Rattle.quantity.proofs.Rim.{back}
 use Rattle.rooms.specs.Background.{laboratoryOf}
-use Rattle.desk_c.specs.Rooms.{levelAnswer}
+use Rattle.door.specs.Given.{levelAnswer}
+use Rattle.door.proofs.Gives.{given}
 use Rattle.desk_c.specs.Rooms.{laboratoryAnswer}
-use Rattle.desk_c.proofs.Gives.{given}
 use Rattle.desk_c.proofs.measured.imbrolt_laboratory.Statement.{statement}
 use Rattle.desk_c.proofs.measured.imbrolt_laboratory.Tie as tie
 

@@ -3,8 +3,9 @@ use borrow.Author.Needs.{needs}
 use mathlib.Core.Path.{_∙_, ap}
 use Rattle.intake.specs.declared.lists.Intake.{Intake}
 use Rattle.means.specs.Sets.{octavesOf}
-use Rattle.desk_c.specs.Rooms.{intakeAnswer, octavesAnswer}
-use Rattle.desk_c.proofs.Gives.{given}
+use Rattle.door.specs.Given.{intakeAnswer}
+use Rattle.door.proofs.Gives.{given}
+use Rattle.desk_c.specs.Rooms.{octavesAnswer}
 use Rattle.desk_c.proofs.measured.imbrolt_octaves.Statement.{statement}
 use Rattle.desk_c.proofs.measured.imbrolt_octaves.Tie as tie
 

@@ -1,9 +1,9 @@
 -- `desk_c::measured::imbrolt_raw` meets its contract. Assumes nothing.
 use borrow.Author.Needs.{needs}
 use mathlib.Core.Path.{ap}
-use Rattle.desk_c.specs.Ratings.{takenAnswer}
+use Rattle.door.specs.Given.{takenAnswer}
+use Rattle.door.proofs.Gives.{given}
 use Rattle.desk_c.specs.Rooms.{rawAnswer}
-use Rattle.desk_c.proofs.Gives.{given}
 use Rattle.desk_c.proofs.measured.imbrolt_raw.Statement.{statement}
 use Rattle.desk_c.proofs.measured.imbrolt_raw.Tie as tie
 

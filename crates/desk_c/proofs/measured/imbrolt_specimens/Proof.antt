@@ -6,8 +6,9 @@ use lib.ListN.{length}
 use Rattle.quantity.specs.declared.quantities.Reading.{Reading}
 use Rattle.intake.specs.declared.lists.Intake.{Intake}
 use Rattle.means.specs.Sets.{specimensOf}
-use Rattle.desk_c.specs.Rooms.{intakeAnswer, specimensAnswer}
-use Rattle.desk_c.proofs.Gives.{given}
+use Rattle.door.specs.Given.{intakeAnswer}
+use Rattle.door.proofs.Gives.{given}
+use Rattle.desk_c.specs.Rooms.{specimensAnswer}
 use Rattle.desk_c.proofs.measured.imbrolt_specimens.Statement.{statement}
 use Rattle.desk_c.proofs.measured.imbrolt_specimens.Tie as tie
 

@@ -2,9 +2,12 @@
 use borrow.Author.Needs.{needs}
 use mathlib.Core.Path.{sym, _∙_, ap, subst}
 use Rattle.rating.specs.Sheets.{ratedOf}
-use Rattle.desk_c.specs.Lists.{setFrom}
-use Rattle.desk_c.specs.Ratings.{kindOf, ratedAnswer, rateAnswer, Fitting}
-use Rattle.desk_c.proofs.Gives.{given, refuses, by-none, by-one}
+use Rattle.door.specs.Kinds.{kindOf}
+use Rattle.door.specs.Lists.{setFrom}
+use Rattle.door.specs.Given.{ratedAnswer, Fitting}
+use Rattle.door.proofs.Gives.{given, refuses}
+use Rattle.desk_c.specs.Ratings.{rateAnswer}
+use Rattle.desk_c.proofs.Named.{by-none, by-one}
 use Rattle.desk_c.proofs.Fits.{rated-fits}
 use Rattle.desk_c.proofs.ratings.imbrolt_rate.Statement.{statement}
 use Rattle.desk_c.proofs.ratings.imbrolt_rate.Tie as tie

@@ -5,9 +5,12 @@ use mathlib.Core.List.{List}
 use lib.ListN.{length}
 use Rattle.quantity.specs.declared.quantities.Reading.{Reading}
 use Rattle.desk.specs.Calls.{readingsRated}
-use Rattle.desk_c.specs.Lists.{readingsFrom}
-use Rattle.desk_c.specs.Ratings.{kindOf, ratedAnswer, readingsAnswer, Fitting}
-use Rattle.desk_c.proofs.Gives.{given, refuses, by-none, by-one}
+use Rattle.door.specs.Kinds.{kindOf}
+use Rattle.door.specs.Lists.{readingsFrom}
+use Rattle.door.specs.Given.{ratedAnswer, Fitting}
+use Rattle.door.proofs.Gives.{given, refuses}
+use Rattle.desk_c.specs.Ratings.{readingsAnswer}
+use Rattle.desk_c.proofs.Named.{by-none, by-one}
 use Rattle.desk_c.proofs.Fits.{readings-fit}
 use Rattle.desk_c.proofs.ratings.imbrolt_rate_readings.Statement.{statement}
 use Rattle.desk_c.proofs.ratings.imbrolt_rate_readings.Tie as tie

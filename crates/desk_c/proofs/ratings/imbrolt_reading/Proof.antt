@@ -2,8 +2,9 @@
 use borrow.Author.Needs.{needs}
 use mathlib.Core.Path.{_∙_, ap}
 use Rattle.intake.specs.Taken.{takenOf}
-use Rattle.desk_c.specs.Ratings.{takenAnswer, readingAnswer}
-use Rattle.desk_c.proofs.Gives.{given}
+use Rattle.door.specs.Given.{takenAnswer}
+use Rattle.door.proofs.Gives.{given}
+use Rattle.desk_c.specs.Ratings.{readingAnswer}
 use Rattle.desk_c.proofs.ratings.imbrolt_reading.Statement.{statement}
 use Rattle.desk_c.proofs.ratings.imbrolt_reading.Tie as tie
 
