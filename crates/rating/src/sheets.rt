@@ -144,7 +144,9 @@ fn marked(marks: u16, bands: usize) -> bool
 // A term at position p, by the entries of its spectrum, rounded to a whole decibel.
 fn term_of(
     set: BandSet,
-    n: Numbers,
+    bands: usize,
+    airborne: bool,
+    origin: u32,
     entries: [u32; 16],
     p: u32,
     powers: &[u32; 901],
@@ -152,22 +154,15 @@ fn term_of(
     starts: &[u8; 895],
 ) -> Decibels
     requires { ⌜ Tables (now powers) (now thresholds) (now starts) ⌝ }
-    requires { ⌜ Sound n ⌝ }
-    requires { ⌜ accepted set (n .bands) ≡ true ⌝ }
-    requires { ⌜ ((i : ℕ) → i < 16 → Entries (n .airborne) (at entries i)) ⌝ }
+    requires { ⌜ Count bands ⌝ }
+    requires { ⌜ origin < 200 ⌝ }
+    requires { ⌜ accepted set bands ≡ true ⌝ }
+    requires { ⌜ ((i : ℕ) → i < 16 → Entries airborne (at entries i)) ⌝ }
     requires { ⌜ p < 500 ⌝ }
-    ensures { λ r. ⌜ r .0 ≡ halfUp (termOf (n .airborne) (n .origin) (levelAt (n .airborne) set entries) (n .bands) p) ⌝ }
+    ensures { λ r. ⌜ r .0 ≡ halfUp (termOf airborne origin (levelAt airborne set entries) bands p) ⌝ }
 {
-    let w = weigh(
-        set,
-        n.bands,
-        n.airborne,
-        entries,
-        powers,
-        thresholds,
-        starts,
-    );
-    let tenths = term_at(w, p, n.airborne, n.origin);
+    let w = weigh(set, bands, airborne, entries, powers, thresholds, starts);
+    let tenths = term_at(w, p, airborne, origin);
     tenths.rounded()
 }
 
@@ -189,11 +184,31 @@ pub fn sheet_of(
     let shifts = position.shifts;
     let rating = rating_at(p, n.airborne, n.origin);
     let spectrum = n.first;
-    let first = term_of(set, n, spectrum, p, powers, thresholds, starts);
+    let first = term_of(
+        set,
+        n.bands,
+        n.airborne,
+        n.origin,
+        spectrum,
+        p,
+        powers,
+        thresholds,
+        starts,
+    );
     let limit = marked(set.marks, n.bands);
     if n.airborne {
         let other = n.second;
-        let second = Term::Given(term_of(set, n, other, p, powers, thresholds, starts));
+        let second = Term::Given(term_of(
+            set,
+            n.bands,
+            n.airborne,
+            n.origin,
+            other,
+            p,
+            powers,
+            thresholds,
+            starts,
+        ));
         Sheet {
             rating,
             first,

@@ -37,7 +37,7 @@ rating-at-requires c κs = (small c, got (c .before) .sound .near)
 term-of-requires : tie.Need-term-of-requires
 term-of-requires c κs =
     let f = got (c .before .before .before) in
-    (c .before .before .before .before .pre .0, (f .sound, (f .acc, (f .sound .first, small (c .before .before)))))
+    (c .before .before .before .before .pre .0, (f .sound .count, (f .sound .near, (f .acc, (f .sound .first, small (c .before .before))))))
 
 marked-requires : tie.Need-marked-requires
 marked-requires c κs = got (c .before .before .before .before) .sound .count
@@ -45,7 +45,7 @@ marked-requires c κs = got (c .before .before .before .before) .sound .count
 term-of-requires-2 : tie.Need-term-of-requires-2
 term-of-requires-2 c κs =
     let f = got (c .before .before .before .before .before .before .before) in
-    (c .before .before .before .before .before .before .before .before .pre .0, (f .sound, (f .acc, (f .sound .second, small (c .before .before .before .before .before .before)))))
+    (c .before .before .before .before .before .before .before .before .pre .0, (f .sound .count, (f .sound .near, (f .acc, (f .sound .second, small (c .before .before .before .before .before .before))))))
 
 returns : tie.Need-returns
 returns c =

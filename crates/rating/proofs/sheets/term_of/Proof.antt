@@ -30,15 +30,15 @@ record Small (c : tie.After-weigh) : Type 0 where
 small : (c : tie.After-weigh) → Small c
 small c =
     let b = c .before in
-    let n = b .args .n in
+    let n = b .args in
     let g : ℕ → ℕ = levelAt (n .airborne) (b .args .set) (b .args .entries) in
-    let k : 1 ≤ n .bands = count-some (b .pre .1 .0 .count) in
+    let k : 1 ≤ n .bands = count-some (b .pre .1 .0) in
     record {
       least = omega (
         arith,
         c .weigh .ensures .least-is,
         least-below g (n .bands) 0 k,
-        level-at-most (n .airborne) (b .args .set) (b .args .entries) (n .bands) (count-most (b .pre .1 .0 .count)) (b .pre .1 .1 .0) (b .pre .1 .1 .1 .0) 0 k,
+        level-at-most (n .airborne) (b .args .set) (b .args .entries) (n .bands) (count-most (b .pre .1 .0)) (b .pre .1 .1 .1 .0) (b .pre .1 .1 .1 .1 .0) 0 k,
       );
       step = omega (arith, c .weigh .ensures .step-is, u-small (energiesOf g (n .bands) (leastOf g (n .bands))));
     }
@@ -46,21 +46,21 @@ small c =
 term-at-requires : tie.Need-term-at-requires
 term-at-requires c κs =
     let b = c .before in
-    (b .pre .1 .1 .1 .1, b .pre .1 .0 .near, small c .least, small c .step)
+    (b .pre .1 .1 .1 .1 .1, b .pre .1 .1 .0, small c .least, small c .step)
 
 rounded-requires : tie.Need-rounded-requires
 rounded-requires c κs =
     let b = c .before .before in
-    let n = b .args .n in
+    let n = b .args in
     let w = c .before .weigh .result in
     let t : (P (termBy (n .airborne) (n .origin) (w .least) (w .step) (b .args .p)) ≤ 10000) × (N (termBy (n .airborne) (n .origin) (w .least) (w .step) (b .args .p)) ≤ 10000) =
-    term-small (n .airborne) (n .origin) (w .least) (w .step) (b .args .p) (b .pre .1 .0 .near) (small (c .before) .least) (small (c .before) .step) (b .pre .1 .1 .1 .1) in
+    term-small (n .airborne) (n .origin) (w .least) (w .step) (b .args .p) (b .pre .1 .1 .0) (small (c .before) .least) (small (c .before) .step) (b .pre .1 .1 .1 .1 .1) in
     rw (c .term-at .ensures) (record { low = omega (ints, t .1); high = omega (ints, t .0) })
 
 returns : tie.Need-returns
 returns c =
     let b = c .before .before .before in
-    let n = b .args .n in
+    let n = b .args in
     let w = c .before .before .weigh in
     c .rounded .ensures
     ∙ ap halfUp (c .before .term-at .ensures
