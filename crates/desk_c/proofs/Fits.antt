@@ -2,7 +2,7 @@
 -- fit an answer. Assumes nothing.
 use mathlib.Core.Bool.{Bool, true, false, cond}
 use mathlib.Core.List.{List}
-use Prim.Native.Nat.{ℕ, zero, suc, _+_, _≤_}
+use Prim.Native.Nat.{ℕ, _≤_}
 use native.Mathlib.Omega.{arith}
 use lib.Dec.{eqb}
 use lib.IntN.{ℤ, pos}
@@ -20,33 +20,20 @@ use Rattle.rating.specs.declared.sheets.Rated.{Rated}
 use Rattle.rating.specs.declared.sheets.Rated.the-variants.{Rating, Refused}
 use Rattle.rating.specs.Kinds.{bandsOf}
 use Rattle.rating.specs.Bands.{accepted}
-use Rattle.rating.specs.Curve.{firstFrom, shiftsOf, within, shifted, startOf}
 use Rattle.rating.specs.Sheets.{asked, sheetOf, ratedOf}
 use Rattle.products.specs.declared.grades.Side.{Side}
 use Rattle.means.specs.Sets.{specimensOf}
 use Rattle.products.specs.Grades.{gradeOf, decidingOf, gradedBy, graded, gradesOf}
+use Rattle.products.proofs.Small.{shifts-most}
 use Rattle.door.specs.Given.{Fitting, GradeFits}
 use Rattle.desk.specs.Calls.{ratedBy, readingsRated}
-
-first-bound : (ok : ℕ → Bool) (tries s : ℕ) → firstFrom ok tries s ≤ s + tries
-unfolding firstFrom
-first-bound ok zero s = omega arith
-first-bound ok (suc tries) s = go (ok s) (first-bound ok tries (suc s))
-  where
-    go : (b : Bool) → firstFrom ok tries (suc s) ≤ suc s + tries → cond b s (firstFrom ok tries (suc s)) ≤ s + suc tries
-    go true h = omega arith
-    go false h = omega arith
-
-shifts-bound : (k : Kind) (x : ℕ → ℤ) → shiftsOf k x ≤ 500
-unfolding shiftsOf
-shifts-bound k x = first-bound (λ s. within k x (shifted k (startOf k x) s)) 500 0
 
 pub rated-fits : (k : Kind) (s : BandSet) → Fitting (ratedOf k s)
 unfolding ratedOf sheetOf
 rated-fits k s = go (eqb (s .len) (bandsOf k)) (accepted s (bandsOf k))
   where
     go : (a b : Bool) → Fitting (asked a (asked b (Rating (sheetOf k s)) (Refused BandRange)) (Refused BandCount))
-    go true true = shifts-bound k (bandOf s)
+    go true true = shifts-most k (bandOf s)
     go true false = tt
     go false b = tt
 

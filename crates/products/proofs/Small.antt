@@ -1,12 +1,13 @@
 -- Every sheet of an accepted set has small numbers: its position is below 500, its terms are within 1000 dB before they are
 -- rounded. So no sum of them wraps. Assumes nothing.
 use mathlib.Core.Path.{_≡_, refl, sym, _∙_, ap, subst}
-use mathlib.Core.Bool.{Bool, true, false}
+use mathlib.Core.Bool.{Bool, true, false, cond}
 use mathlib.Core.List.{List}
-use Prim.Native.Nat.{ℕ, _≤_, _<_}
+use Prim.Native.Nat.{ℕ, zero, suc, _+_, _≤_, _<_}
 use native.Mathlib.Omega.{arith}
 use lib.Dec.{eqb}
 use lib.IntN.{ℤ, pos, _-ℤ_}
+use Rattle.laws.specs.Parts.{P, N}
 use Rattle.laws.proofs.Ints.{minus, apart}
 use Rattle.quantity.specs.Quantities.{halfUp, bandOf}
 use Rattle.quantity.specs.declared.quantities.BandSet.{BandSet}
@@ -20,7 +21,7 @@ use Rattle.rating.specs.declared.sheets.Term.{Term}
 use Rattle.rating.specs.declared.sheets.Rated.the-variants.{Rating, Refused}
 use Rattle.rating.specs.Kinds.{airborne, bandsOf, limitOf}
 use Rattle.rating.specs.Bands.{accepted}
-use Rattle.rating.specs.Curve.{ratingOf}
+use Rattle.rating.specs.Curve.{firstFrom, ratingOf, shiftsOf, within, shifted, startOf}
 use Rattle.rating.specs.Sheets.{asked, secondBy, sheetOf, ratedOf}
 use Rattle.rating.specs.Levels.{at, Entries, levelAt, leastOf, energiesOf, entriesOf, firstOf, secondOf, startAdd, startAt, ratingAt, ratingBy, termOf as termAt}
 use Rattle.rating.proofs.Searched.{count-most, count-some, level-at-most, least-below}
@@ -32,11 +33,25 @@ use Rattle.rating.proofs.Theorems.{Found, found}
 use Rattle.products.specs.Bounds.{Small, SmallSheet}
 use Rattle.products.specs.Grades.{termOf}
 
-rating-small : (sign : Bool) (o p : ℕ) → o < 200 → p < 500 → Small (ratingBy sign o p)
-rating-small true o p h k =
+rating-by : (sign : Bool) (o p : ℕ) → o < 200 → p < 500 → (P (ratingBy sign o p) < 500) × (N (ratingBy sign o p) < 500)
+rating-by true o p h k =
     (omega (arith, minus (pos p) (pos o), apart (pos p -ℤ pos o)), omega (arith, minus (pos p) (pos o), apart (pos p -ℤ pos o)))
-rating-small false o p h k =
+rating-by false o p h k =
     (omega (arith, minus (pos o) (pos p), apart (pos o -ℤ pos p)), omega (arith, minus (pos o) (pos p), apart (pos o -ℤ pos p)))
+
+-- the search tries 500 positions
+first-most : (ok : ℕ → Bool) (tries s : ℕ) → firstFrom ok tries s ≤ s + tries
+unfolding firstFrom
+first-most ok zero s = omega arith
+first-most ok (suc tries) s = go (ok s) (first-most ok tries (suc s))
+  where
+    go : (b : Bool) → firstFrom ok tries (suc s) ≤ suc s + tries → cond b s (firstFrom ok tries (suc s)) ≤ s + suc tries
+    go true h = omega arith
+    go false h = omega arith
+
+pub shifts-most : (k : Kind) (x : ℕ → ℤ) → shiftsOf k x ≤ 500
+unfolding shiftsOf
+shifts-most k x = first-most (λ s. within k x (shifted k (startOf k x) s)) 500 0
 
 origin-small : (k : Kind) → ratingAt k < 200
 origin-small A3 = omega arith
@@ -81,10 +96,13 @@ module _ (k : Kind) (s : BandSet) (acc : accepted s (bandsOf k) ≡ true) where
       (term-by (secondOf k) (second-fit k))
   second-by false e = (omega arith, omega arith)
 
+  pub rating-near : (P (ratingOf k (bandOf s)) < 500) × (N (ratingOf k (bandOf s)) < 500)
+  rating-near = subst (λ (z : ℤ). (P z < 500) × (N z < 500)) (sym rating-at) (rating-by (airborne k) (ratingAt k) p (origin-small k) place-small)
+
   pub sheet-small : SmallSheet (sheetOf k s)
   unfolding sheetOf
   sheet-small = record {
-    rating = subst Small (sym rating-at) (rating-small (airborne k) (ratingAt k) p (origin-small k) place-small);
+    rating = (omega (arith, rating-near .0), omega (arith, rating-near .1));
     first = subst Small (first-is k s acc p rating-at) (term-by (firstOf k) (first-fit k));
     second = second-by (airborne k) refl;
   }
