@@ -8,9 +8,9 @@ unfoldable pub use Rattle.request.specs.Texts.{keyByte, levelText, bandText, re
 -- the request that a line is, and its answer
 pub use Rattle.request.specs.Reading.{Request}
 unfoldable pub use Rattle.request.specs.Reading.{requestOf}
-pub use Rattle.line.specs.Answers.{answerTo}
+pub use Rattle.reply.specs.Answers.{answerTo}
 unfoldable pub use Rattle.request.specs.Gathering.{firstFault}
-unfoldable pub use Rattle.line.specs.Answers.{judged, answerOf}
+unfoldable pub use Rattle.reply.specs.Answers.{judged, answerOf}
 -- a whole run: one answer for each line, in order
 unfoldable pub use Rattle.line.specs.Answers.{linesOf, answersTo, answersOf}
 -- "The library writes an answer line from an offset that the caller names; bytes before it and after the line keep their

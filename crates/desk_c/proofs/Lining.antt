@@ -13,7 +13,8 @@ use Rattle.quantity.specs.declared.refusals.Refusal.the-variants.{NoRoom}
 use Rattle.line.specs.declared.lines.Wrote.{Wrote}
 use Rattle.line.specs.declared.lines.Wrote.the-variants.{Bytes, Refused}
 use Rattle.line.specs.declared.blocks.Progress.{Progress}
-use Rattle.line.specs.Answers.{answerOf, fitsAt, placed, wroteOf}
+use Rattle.reply.specs.Answers.{answerOf}
+use Rattle.line.specs.Answers.{fitsAt, placed, wroteOf}
 use Rattle.line.specs.Blocks.{Block, blockOf, Answered}
 use Rattle.door.specs.Answers.{Answer, returned, held}
 use Rattle.door.specs.Answers.Answer.{refused, numbers}

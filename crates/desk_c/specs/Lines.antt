@@ -7,7 +7,8 @@ use lib.ListN.{length}
 use Rattle.quantity.specs.Refusals.{numberOf}
 use Rattle.line.specs.declared.lines.Wrote.{Wrote}
 use Rattle.line.specs.declared.lines.Wrote.the-variants.{Bytes, Refused}
-use Rattle.line.specs.Answers.{answerOf, placed, wroteOf}
+use Rattle.reply.specs.Answers.{answerOf}
+use Rattle.line.specs.Answers.{placed, wroteOf}
 use Rattle.line.specs.Blocks.{Block, blockOf}
 use Rattle.door.specs.Answers.{Answer, front}
 use Rattle.door.specs.Answers.Answer.{refused, numbers}

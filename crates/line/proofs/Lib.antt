@@ -1,5 +1,4 @@
--- Laws of lines: what is answered, where it is placed, turns, blocks and runs.
-pub mod Replies
+-- Laws of lines: where an answer is placed, turns, blocks and runs.
 pub mod Placing
 pub mod Turns
 pub mod Runs

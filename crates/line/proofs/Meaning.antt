@@ -16,19 +16,20 @@ use Rattle.rating.specs.declared.sheets.Sheet.{Sheet}
 use Rattle.rating.specs.declared.sheets.Term.{Term}
 use Rattle.rating.specs.declared.sheets.Term.the-variants.{Given, Absent}
 use Rattle.quantity.specs.Refusals.{numberOf}
-use Rattle.line.specs.declared.requests.Reply.{Reply}
+use Rattle.reply.specs.declared.requests.Reply.{Reply}
 use Rattle.line.specs.declared.blocks.Piece.{Piece}
 use Rattle.answer.specs.Texts.{others, lineText, decimal, numberText, termText, setText, kindText, fieldsOf, ratedText, noRequestText}
 use Rattle.request.specs.Texts.{Band, KeyOk, BandsOk, requestText}
 use Rattle.request.specs.Reading.{Asked, requestAt, Request, requestOf}
 use Rattle.request.specs.Reading.Asked.{asked}
 use Rattle.request.specs.Reading.Request.{request}
-use Rattle.line.specs.Answers.{judged, answerTo, answerOf, linesOf, answersTo, answersOf, noReply, replyTo, replyAt, replyText}
+use Rattle.reply.specs.Answers.{judged, answerTo, answerOf, noReply, replyTo, replyAt, replyText}
+use Rattle.line.specs.Answers.{linesOf, answersTo, answersOf}
 use Rattle.line.specs.Blocks.{feedIn, movedBy, feedAfter, restPiece, feedPiece, pieceAt, Step, skipBy, answerBy, stepAt, Block, blockFrom, blockOf, afterFeed, answersFrom, Run}
 use Rattle.line.specs.Blocks.Run.{done, part, end}
 use Rattle.request.proofs.Stands.{Stands, taken, fits}
 use Rattle.request.proofs.Wholes.{RequestAt, RequestGood, request-ok, request-here, part-stands, text-length, IsText, text-of, means}
-use Rattle.line.proofs.Replies.{reply-none}
+use Rattle.reply.proofs.Replies.{reply-none}
 use Rattle.line.proofs.Placing.{reply-text}
 use Rattle.line.proofs.Turns.{feed-most}
 use Rattle.line.proofs.Runs.{step-ahead, block-out, block-still, block-on}

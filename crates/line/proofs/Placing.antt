@@ -13,7 +13,7 @@ use lib.Seq.{take-all, drop-drop}
 use Rattle.quantity.specs.declared.refusals.Refusal.the-variants.{NoRoom}
 use Rattle.rating.specs.declared.kinds.Kind.{Kind}
 use Rattle.rating.specs.declared.sheets.Rated.{Rated}
-use Rattle.line.specs.declared.requests.Reply.{Reply}
+use Rattle.reply.specs.declared.requests.Reply.{Reply}
 use Rattle.line.specs.declared.lines.Wrote.{Wrote}
 use Rattle.line.specs.declared.lines.Wrote.the-variants as wrote
 use Rattle.request.specs.Texts.{Band, requestText}
@@ -21,9 +21,10 @@ use Rattle.answer.specs.Texts.{ratedText, noRequestText, front}
 use Rattle.request.specs.Reading.{Asked, requestAt, Request, whole, requestOf}
 use Rattle.request.specs.Reading.Asked.{asked}
 use Rattle.request.specs.Reading.Request.{request}
-use Rattle.line.specs.Answers.{fitsAt, placed, wroteOf, judged, answerTo, answerOf, noReply, replyTo, replyAt, replyText, Keyed}
+use Rattle.reply.specs.Answers.{judged, answerTo, answerOf, noReply, replyTo, replyAt, replyText, Keyed}
+use Rattle.line.specs.Answers.{fitsAt, placed, wroteOf}
 use Rattle.request.proofs.Wholes.{RequestAt, RequestGood, request-ok, text-length}
-use Rattle.line.proofs.Replies.{reply-none, reply-some}
+use Rattle.reply.proofs.Replies.{reply-none, reply-some}
 
 module _ (out : List ℕ) (at : ℕ) (text : List ℕ) where
   pub no-room : length out < at + length text → (wrote.Refused NoRoom ≡ wroteOf out at text) × (out ≡ placed out at text)

@@ -12,7 +12,7 @@ use Rattle.line.specs.declared.blocks.Piece.{Piece}
 use Rattle.line.specs.declared.blocks.Turn.{Turn}
 use Rattle.line.specs.declared.blocks.Progress.{Progress}
 use Rattle.answer.specs.Texts.{front}
-use Rattle.line.specs.Answers.{replyText}
+use Rattle.reply.specs.Answers.{replyText}
 use Rattle.line.specs.Blocks.{feedAfter, pieceAt, Step, skipBy, answerBy, stepAt, Block, blockFrom, blockOf, Turned, Answered}
 use Rattle.answer.proofs.Fronts.{front-length}
 use Rattle.line.proofs.Turns.{feed-bounds, PieceGood, piece-good, none-placed}

@@ -10,7 +10,7 @@ use lib.ListN.{length, getD, take, drop, length-drop, length-append, drop-of-len
 use lib.Seq.{drop-cons, take-at, drop-at, drop-drop}
 use Rattle.quantity.specs.declared.refusals.Refusal.{Refusal}
 use Rattle.quantity.specs.declared.refusals.Refusal.the-variants.{NoRoom}
-use Rattle.line.specs.declared.requests.Reply.{Reply}
+use Rattle.reply.specs.declared.requests.Reply.{Reply}
 use Rattle.line.specs.declared.lines.Wrote.{Wrote}
 use Rattle.line.specs.declared.lines.Wrote.the-variants as wrote
 use Rattle.line.specs.declared.blocks.Piece.{Piece}
@@ -18,11 +18,12 @@ use Rattle.line.specs.declared.blocks.Turn.{Turn}
 use Rattle.request.specs.Reading.{byteAt, Asked, requestAt}
 use Rattle.request.specs.Reading.Asked.{asked}
 use Rattle.answer.specs.Texts.{front}
-use Rattle.line.specs.Answers.{fitsAt, placed, wroteOf, judged, noReply, replyTo, replyAt, replyText, Keyed}
+use Rattle.reply.specs.Answers.{judged, noReply, replyTo, replyAt, replyText, Keyed}
+use Rattle.line.specs.Answers.{fitsAt, placed, wroteOf}
 use Rattle.line.specs.Blocks.{oneMore, feedIn, movedBy, feedAfter, restPiece, feedPiece, pieceAt, Step, skipBy, answerBy, stepAt, Block, blockFrom, blockOf, Turned, Answered}
 use Rattle.request.proofs.Stands.{fits}
 use Rattle.request.proofs.Wholes.{RequestAt, RequestGood, request-ok, text-length}
-use Rattle.line.proofs.Replies.{reply-keyed}
+use Rattle.reply.proofs.Replies.{reply-keyed}
 use Rattle.line.proofs.Placing.{none-keyed}
 
 -- ---- the next line feed

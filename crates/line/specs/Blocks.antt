@@ -5,11 +5,12 @@ use mathlib.Core.Path.{_≡_}
 use Prim.Native.Nat.{ℕ, zero, suc, _+_, _-_, _≤_}
 use lib.Dec.{leb, ltb, eqb}
 use lib.ListN.{length, take, drop}
-use Rattle.line.specs.declared.requests.Reply.{Reply}
+use Rattle.reply.specs.declared.requests.Reply.{Reply}
 use Rattle.line.specs.declared.blocks.Piece.{Piece}
 use Rattle.line.specs.declared.blocks.Turn.{Turn}
 use Rattle.line.specs.declared.blocks.Progress.{Progress}
-use Rattle.line.specs.Answers.{noReply, replyAt, replyText, answersOf}
+use Rattle.reply.specs.Answers.{noReply, replyAt, replyText}
+use Rattle.line.specs.Answers.{answersOf}
 
 -- how many bytes stand in front up to and with the first line feed; 0 where there is none
 abbrev pub oneMore : ℕ → ℕ

@@ -1,3 +1,3 @@
--- Lines, in the order of document 01: what a request is answered, and whole runs.
+-- Lines, in the order of document 01: whole runs and where an answer is written, and runs in parts.
 pub mod Answers
 pub mod Blocks

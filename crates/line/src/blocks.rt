@@ -1,17 +1,17 @@
 // The block call: all whole lines of a part of the input, in order.
 use crate::lines::Wrote;
 use crate::lines::answer_at;
-use crate::requests::Reply;
-use crate::requests::no_reply;
-use crate::requests::reply_at;
 use energy::level_starts;
 use energy::level_thresholds;
 use energy::scaled_powers;
+use reply::Reply;
+use reply::no_reply;
+use reply::reply_at;
 ghost use mathlib.Core.Path.{_≡_};
 ghost use Prim.Native.Nat.{_≤_, _-_};
 ghost use lib.ListN.{length};
 ghost use Rattle.energy.specs.Energies.{Tables};
-ghost use Rattle.line.specs.Answers.{noReply};
+ghost use Rattle.reply.specs.Answers.{noReply};
 ghost use Rattle.line.specs.Blocks.{feedAfter, pieceAt, stepAt, Turned, blockOf, Answered};
 
 // The next piece of a part: the position after it (its own where there is none), whether a long line goes on past the part,

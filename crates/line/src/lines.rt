@@ -1,7 +1,4 @@
 // The line call: one line, answered into a lent output from an offset.
-use crate::requests::Reply;
-use crate::requests::no_reply;
-use crate::requests::reply_at;
 use answer::put_head;
 use answer::put_none;
 use answer::put_rated;
@@ -10,11 +7,15 @@ use energy::level_starts;
 use energy::level_thresholds;
 use energy::scaled_powers;
 use quantity::Refusal;
+use reply::Reply;
+use reply::no_reply;
+use reply::reply_at;
 ghost use mathlib.Core.Path.{_≡_};
 ghost use Prim.Native.Nat.{_≤_};
 ghost use lib.ListN.{length};
 ghost use Rattle.answer.specs.Texts.{front};
-ghost use Rattle.line.specs.Answers.{Keyed, answerOf, replyText, placed, wroteOf};
+ghost use Rattle.reply.specs.Answers.{Keyed, answerOf, replyText};
+ghost use Rattle.line.specs.Answers.{placed, wroteOf};
 
 // How many bytes the answer took, or the one refusal of the call.
 pub enum Wrote {

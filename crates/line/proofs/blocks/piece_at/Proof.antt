@@ -7,7 +7,7 @@ use Rattle.line.proofs.blocks.piece_at.Reads as reads
 use Rattle.line.proofs.blocks.piece_at.Lts as lts
 use Rattle.line.proofs.blocks.feed_after.Reads as feed-after-reads
 use Rattle.line.proofs.blocks.unasked.Reads as unasked-reads
-use Rattle.line.proofs.requests.reply_at.Reads as reply-at-reads
+use Rattle.reply.proofs.reply_at.Reads as reply-at-reads
 
 -- src/blocks.rt:65:9
 reply-at-requires : tie.Need-reply-at-requires

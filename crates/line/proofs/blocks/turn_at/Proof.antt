@@ -1,6 +1,6 @@
 use mathlib.Core.Path.{_≡_, sym, _∙_, ap, subst}
 use native.Mathlib.Omega.{arith}
-use Rattle.line.specs.Answers.{Keyed}
+use Rattle.reply.specs.Answers.{Keyed}
 use Rattle.line.proofs.Turns.{piece-good, turn-past, turn-skipped, turn-none, turn-told, turn-full}
 use borrow.Author.Needs.{needs}
 use Rattle.line.proofs.blocks.turn_at.Statement.{statement}

@@ -2,7 +2,7 @@ use mathlib.Core.Path.{_≡_, sym, _∙_, ap}
 use Prim.Native.Nat.{_+_, _≤_}
 use native.Mathlib.Omega.{arith}
 use lib.ListN.{length}
-use Rattle.line.specs.Answers.{replyText}
+use Rattle.reply.specs.Answers.{replyText}
 use Rattle.line.proofs.Placing.{no-room, room-wrote, room-home, room-length, placed-length}
 use borrow.Author.Needs.{needs}
 use Rattle.line.proofs.lines.answer_at.Statement.{statement}

@@ -5,9 +5,9 @@ use native.Mathlib.Omega.{arith}
 use lib.ListN.{length, take, drop, length-set, length-take, length-append}
 use Rattle.answer.specs.Texts.{front, kindText, others, fieldsOf}
 use Rattle.answer.proofs.Fronts.{front-length, front-more, tail-within, tail-length, tail-home, tail-same}
-use Rattle.line.specs.Answers.{replyText}
+use Rattle.reply.specs.Answers.{replyText}
 use Rattle.answer.proofs.Writers.{none-length}
-use Rattle.line.proofs.Replies.{reply-none, reply-some, head-length, reply-length}
+use Rattle.reply.proofs.Replies.{reply-none, reply-some, head-length, reply-length}
 use borrow.Author.Needs.{needs}
 use Rattle.line.proofs.lines.put_reply.Statement.{statement}
 use Rattle.line.proofs.lines.put_reply.Tie as tie

@@ -2,7 +2,7 @@ use mathlib.Core.Path.{_≡_, sym, _∙_, ap}
 use native.Mathlib.Omega.{arith}
 use lib.ListN.{length}
 use Rattle.answer.proofs.Writers.{none-length}
-use Rattle.line.proofs.Replies.{reply-none, reply-length}
+use Rattle.reply.proofs.Replies.{reply-none, reply-length}
 use borrow.Author.Needs.{needs}
 use Rattle.line.proofs.lines.reply_len.Statement.{statement}
 use Rattle.line.proofs.lines.reply_len.Tie as tie

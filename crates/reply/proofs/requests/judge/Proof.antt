@@ -1,12 +1,12 @@
--- `line::requests::judge` meets its contract: the count, the first refusal of a band, or the sheet. Assumes nothing.
+-- `reply::requests::judge` meets its contract: the count, the first refusal of a band, or the sheet. Assumes nothing.
 use borrow.Author.Needs.{needs}
 use mathlib.Core.Path.{refl, _∙_}
 use Rattle.rating.specs.declared.sheets.Rated.the-variants.{Rating}
 use Rattle.rating.specs.Kinds.{bandsOf}
 use Rattle.rating.proofs.Rated.{in-order}
-use Rattle.line.proofs.Replies.{judge-count, judge-missing, judge-range, judge-sheet}
-use Rattle.line.proofs.requests.judge.Statement.{statement}
-use Rattle.line.proofs.requests.judge.Tie as tie
+use Rattle.reply.proofs.Replies.{judge-count, judge-missing, judge-range, judge-sheet}
+use Rattle.reply.proofs.requests.judge.Statement.{statement}
+use Rattle.reply.proofs.requests.judge.Tie as tie
 
 bands-of-requires : tie.Need-bands-of-requires
 bands-of-requires c κs = search needs

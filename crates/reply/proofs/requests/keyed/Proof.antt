@@ -2,16 +2,16 @@ use mathlib.Core.Path.{_∙_}
 use Prim.Native.Nat.{_+_}
 use native.Mathlib.Omega.{arith}
 use Rattle.request.specs.Reading.{bandsAt}
-use Rattle.line.proofs.Replies.{key-none, key-long, bands-broken, bands-none, bands-far, bands-read, clean-of}
+use Rattle.reply.proofs.Replies.{key-none, key-long, bands-broken, bands-none, bands-far, bands-read, clean-of}
 use borrow.Author.Needs.{needs}
-use Rattle.line.proofs.requests.keyed.Statement.{statement}
-use Rattle.line.proofs.requests.keyed.Tie as tie
-use Rattle.line.proofs.requests.keyed.Reads as reads
-use Rattle.line.proofs.requests.keyed.Lts as lts
+use Rattle.reply.proofs.requests.keyed.Statement.{statement}
+use Rattle.reply.proofs.requests.keyed.Tie as tie
+use Rattle.reply.proofs.requests.keyed.Reads as reads
+use Rattle.reply.proofs.requests.keyed.Lts as lts
 use Rattle.request.proofs.bands_at.Reads as bands-at-reads
-use Rattle.line.proofs.requests.judge.Reads as judge-reads
+use Rattle.reply.proofs.requests.judge.Reads as judge-reads
 use Rattle.request.proofs.key_span.Reads as key-span-reads
-use Rattle.line.proofs.requests.no_reply.Reads as no-reply-reads
+use Rattle.reply.proofs.requests.no_reply.Reads as no-reply-reads
 
 -- src/requests.rt:84:15
 add-key : tie.Need-add-key

@@ -16,7 +16,7 @@ ghost use lib.ListN.{length, drop};
 ghost use Rattle.energy.specs.Energies.{Tables};
 ghost use Rattle.rating.specs.Kinds.{bandsOf};
 ghost use Rattle.request.specs.Reading.{keySpan, withKey};
-ghost use Rattle.line.specs.Answers.{noReply, replyAt, replyTo, judgedIn, Clean};
+ghost use Rattle.reply.specs.Answers.{noReply, replyAt, replyTo, judgedIn, Clean};
 
 // A request: the position after it (0 for none), its kind, where its key stands and how long it is, and what it is answered.
 pub struct Reply {

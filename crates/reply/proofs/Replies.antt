@@ -24,7 +24,7 @@ use Rattle.rating.proofs.Walks.{all-made}
 use Rattle.request.specs.declared.bands.Gathered.{Gathered}
 use Rattle.request.specs.declared.heads.Named.{Named}
 use Rattle.request.specs.declared.heads.Named.the-variants as named
-use Rattle.line.specs.declared.requests.Reply.{Reply}
+use Rattle.reply.specs.declared.requests.Reply.{Reply}
 use Rattle.answer.specs.Texts.{others, lineText, kindText, fieldsOf, ratedText, noRequestText}
 use Rattle.request.specs.Texts.{Band}
 use Rattle.request.specs.Texts.Band.{missing, level}
@@ -32,7 +32,7 @@ use Rattle.request.specs.Reading.{byteAt, Bands, bandsFrom, bandsAt, keySpan, k
 use Rattle.request.specs.Reading.Bands.{broken, ended}
 use Rattle.request.specs.Reading.Asked.{asked}
 use Rattle.request.specs.Gathering.{nought, valueOf, orElse, firstFault, marksOf, valuesOf, Holds, GatheredAt}
-use Rattle.line.specs.Answers.{setOf, judgedBy, judged, judgedIn, Clean, noReply, replyTo, replyAt, replyText, Keyed}
+use Rattle.reply.specs.Answers.{setOf, judgedBy, judged, judgedIn, Clean, noReply, replyTo, replyAt, replyText, Keyed}
 use Rattle.request.proofs.Leaves.{inside}
 use Rattle.request.proofs.Stands.{Stands, fits}
 use Rattle.request.proofs.Wholes.{BandsGood, bands-ok, span-most, kind-ok, kind-two, text-length, RequestAt, RequestGood, request-ok}

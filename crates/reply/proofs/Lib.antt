@@ -1,0 +1,2 @@
+-- Laws of replies: what the code answers to what it read.
+pub mod Replies
