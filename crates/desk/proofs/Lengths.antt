@@ -33,7 +33,7 @@ use Rattle.request.specs.Reading.{Request, requestOf}
 use Rattle.request.specs.Reading.Request.{none, request}
 use Rattle.request.specs.Gathering.{firstFault}
 use Rattle.request.proofs.Wholes.{text-of, kind-two}
-use Rattle.line.specs.Answers.{setOf, judgedBy, judged, answerTo, answerOf}
+use Rattle.reply.specs.Answers.{setOf, judgedBy, judged, answerTo, answerOf}
 use Rattle.line.proofs.Meaning.{Roomy}
 
 -- a number of k digits, with its minus
