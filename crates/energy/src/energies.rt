@@ -914,12 +914,13 @@ pub fn scaled_powers() -> [u32; 901]
     ENERGIES
 }
 
-// F(d); above 900 it is 0.
-pub fn energy(d: u32) -> u32
+// F(d), out of the table; above 900 it is 0.
+pub fn energy(powers: &[u32; 901], d: u32) -> u32
+    requires { ⌜ Scaled (now powers) ⌝ }
     ensures { λ r. ⌜ r ≡ F d ⌝ }
 {
     if 900 < d {
         return 0;
     }
-    ENERGIES[d as usize]
+    powers[d as usize]
 }

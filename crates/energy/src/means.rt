@@ -3,6 +3,7 @@ use crate::energies::energy;
 use crate::steps::reached;
 ghost use mathlib.Core.Path.{_≡_};
 ghost use Prim.Native.Nat.{_+_, _≤_, _<_, min};
+ghost use Rattle.energy.specs.Energies.{Scaled};
 ghost use Rattle.energy.specs.Means.{v, mean₃};
 
 // G(48) to G(1): the greatest sums that still count a tenth.
@@ -72,11 +73,14 @@ fn least(x: u32, y: u32) -> u32
 }
 
 // The mean of three values, each counted in tenths from one floor.
-pub fn mean_of_three(x: u32, y: u32, z: u32) -> u32
+pub fn mean_of_three(x: u32, y: u32, z: u32, powers: &[u32; 901]) -> u32
     requires { ⌜ (x < 1000000) × (y < 1000000) × (z < 1000000) ⌝ }
+    requires { ⌜ Scaled (now powers) ⌝ }
     ensures { λ r. ⌜ r ≡ mean₃ x y z ⌝ }
 {
     let m = least(x, least(y, z));
-    let s = energy(x - m) as u64 + energy(y - m) as u64 + energy(z - m) as u64;
+    let s = energy(powers, x - m) as u64
+        + energy(powers, y - m) as u64
+        + energy(powers, z - m) as u64;
     m + step_of_sum(s)
 }

@@ -1,5 +1,6 @@
 // Means of three: octaves from thirds, and the means of three specimens.
 use energy::mean_of_three;
+use energy::scaled_powers;
 use intake::Intake;
 use intake::Outcome;
 use intake::take_all;
@@ -14,6 +15,7 @@ ghost use mathlib.Core.Path.{_≡_};
 ghost use mathlib.Core.Bool.{true};
 ghost use Prim.Native.Nat.{ℕ, _+_, _*_, _≤_, _<_};
 ghost use lib.ListN.{getD};
+ghost use Rattle.energy.specs.Energies.{Scaled};
 ghost use Rattle.quantity.specs.Quantities.{inRange};
 ghost use Rattle.intake.specs.Lists.{weightOf, refusedList, nought};
 ghost use Rattle.rating.specs.Bands.{bit};
@@ -21,11 +23,12 @@ ghost use Rattle.means.specs.Means.{meanOf₃};
 ghost use Rattle.means.specs.Sets.{marked₃, placed, meansOf, octavesOf, specimensOf};
 
 // The mean of three band values, each counted from -20.0 dB.
-fn mean(x: Tenths, y: Tenths, z: Tenths) -> Tenths
+fn mean(x: Tenths, y: Tenths, z: Tenths, powers: &[u32; 901]) -> Tenths
     requires { ⌜ (inRange (x .0) ≡ true) × (inRange (y .0) ≡ true) × (inRange (z .0) ≡ true) ⌝ }
+    requires { ⌜ Scaled (now powers) ⌝ }
     ensures { λ r. ⌜ r .0 ≡ meanOf₃ (x .0) (y .0) (z .0) ⌝ }
 {
-    let counted = mean_of_three(above(x.0, 200), above(y.0, 200), above(z.0, 200));
+    let counted = mean_of_three(above(x.0, 200), above(y.0, 200), above(z.0, 200), powers);
     Tenths(less(counted, 200))
 }
 
@@ -60,10 +63,18 @@ fn weight(limit: bool, j: usize) -> u16
 }
 
 // The means of three values each, `count` of them: mean j is of the values at j * step, and one and two strides further.
-fn means(values: [Tenths; 48], marks: u64, count: usize, step: usize, stride: usize) -> BandSet
+fn means(
+    values: [Tenths; 48],
+    marks: u64,
+    count: usize,
+    step: usize,
+    stride: usize,
+    powers: &[u32; 901],
+) -> BandSet
     requires { ⌜ count ≤ 16 ⌝ }
     requires { ⌜ ((j : ℕ) → j < count → j * step + 2 * stride < 48) ⌝ }
     requires { ⌜ ((i : ℕ) → i < 48 → inRange (placed values i) ≡ true) ⌝ }
+    requires { ⌜ Scaled (now powers) ⌝ }
     ensures { λ r. ⌜ r ≡ meansOf (placed values) marks count step stride ⌝ }
 {
     let mut out = [Tenths(0); 16];
@@ -74,7 +85,7 @@ fn means(values: [Tenths; 48], marks: u64, count: usize, step: usize, stride: us
         let x = values[i];
         let y = values[i + stride];
         let z = values[i + 2 * stride];
-        let value = mean(x, y, z);
+        let value = mean(x, y, z, powers);
         out[j] = value;
         limits += weight(marked_of_three(marks, i, stride), j);
         j += 1;
@@ -127,7 +138,8 @@ pub fn octaves(set: BandSet) -> Intake
     }
     let thirds = set.values;
     let values = widened(thirds);
-    let means = means(values, set.marks as u64, 5, 3, 1);
+    let powers = scaled_powers();
+    let means = means(values, set.marks as u64, 5, 3, 1, &powers);
     Intake {
         outcome: Outcome::Accepted,
         set: means,
@@ -148,7 +160,8 @@ pub fn specimens(readings: [Reading; 48], len: usize) -> Intake
         Outcome::Refused(refusal) => refused(refusal),
         Outcome::Accepted => {
             let values = all.values;
-            let means = means(values, all.marks, 16, 1, 16);
+            let powers = scaled_powers();
+            let means = means(values, all.marks, 16, 1, 16, &powers);
             Intake {
                 outcome: Outcome::Accepted,
                 set: means,

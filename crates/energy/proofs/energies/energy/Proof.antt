@@ -1,8 +1,7 @@
--- `energy::energies::energy` meets its contract: the table's rule at each entry, and 0 above it. Assumes nothing.
-use native.Mathlib.Omega.{arith}
+-- `energy::energies::energy` meets its contract: the table's entry, and 0 above it. Assumes nothing.
 use borrow.Author.Needs.{needs}
-use Rattle.energy.proofs.Scaled.{F-above, entry-is}
-use Rattle.energy.proofs.Tables.{energies}
+use native.Mathlib.Omega.{arith}
+use Rattle.energy.proofs.Scaled.{F-above}
 use Rattle.energy.proofs.energies.energy.Statement.{statement}
 use Rattle.energy.proofs.energies.energy.Tie as tie
 
@@ -12,12 +11,13 @@ returns c = F-above (c .before .args .d) (c .if1 .taken)
 mul-result : tie.Need-mul-result
 mul-result c = search needs
 
-array-read-result : tie.Need-array-read-result
-array-read-result c = search needs
+element-copy-out-result : tie.Need-element-copy-out-result
+element-copy-out-result c = search needs
 
 returns-2 : tie.Need-returns-2
-unfolding energies
-returns-2 c = entry-is (c .before .args .d) (omega arith)
+returns-2 c =
+    let b = c .before .before in
+    b .pre .each (b .args .d) (omega arith)
 
 pub energy-spec : {M : Type 1} → statement M
-energy-spec = tie.close (tie.spec returns mul-result array-read-result returns-2)
+energy-spec = tie.close (tie.spec returns mul-result element-copy-out-result returns-2)

@@ -12,17 +12,17 @@ use Rattle.means.proofs.sets.mean.Tie as tie
 above-requires : tie.Need-above-requires
 above-requires c κs =
     let b = c .before in
-    band-asks (b .args .x .0) 200 (b .pre .0) (omega arith) (omega arith)
+    band-asks (b .args .x .0) 200 (b .pre .0 .0) (omega arith) (omega arith)
 
 above-requires-2 : tie.Need-above-requires-2
 above-requires-2 c κs =
     let b = c .before .before .before in
-    band-asks (b .args .y .0) 200 (b .pre .1) (omega arith) (omega arith)
+    band-asks (b .args .y .0) 200 (b .pre .0 .1) (omega arith) (omega arith)
 
 above-requires-3 : tie.Need-above-requires-3
 above-requires-3 c κs =
     let b = c .before .before .before .before .before in
-    band-asks (b .args .z .0) 200 (b .pre .2) (omega arith) (omega arith)
+    band-asks (b .args .z .0) 200 (b .pre .0 .2) (omega arith) (omega arith)
 
 -- the three values, counted
 abbrev Counted : tie.After-above3 → Type 0
@@ -35,15 +35,15 @@ Counted c =
 counted : (c : tie.After-above3) → Counted c
 counted c =
     let b = c .before .before .before .before .before .before in (
-      band-gives (b .args .x .0) 200 (c .before .before .before .before .above .result) (b .pre .0) (omega arith) (omega arith) (c .before .before .before .before .above .ensures),
-      band-gives (b .args .y .0) 200 (c .before .before .above2 .result) (b .pre .1) (omega arith) (omega arith) (c .before .before .above2 .ensures),
-      band-gives (b .args .z .0) 200 (c .above3 .result) (b .pre .2) (omega arith) (omega arith) (c .above3 .ensures),
+      band-gives (b .args .x .0) 200 (c .before .before .before .before .above .result) (b .pre .0 .0) (omega arith) (omega arith) (c .before .before .before .before .above .ensures),
+      band-gives (b .args .y .0) 200 (c .before .before .above2 .result) (b .pre .0 .1) (omega arith) (omega arith) (c .before .before .above2 .ensures),
+      band-gives (b .args .z .0) 200 (c .above3 .result) (b .pre .0 .2) (omega arith) (omega arith) (c .above3 .ensures),
     )
 
 mean-of-three-requires : tie.Need-mean-of-three-requires
 mean-of-three-requires c κs =
     let w = counted c in
-    omega (arith, w .0 .most, w .1 .most, w .2 .most)
+    (omega (arith, w .0 .most, w .1 .most, w .2 .most), c .before .before .before .before .before .before .pre .1)
 
 less-requires : tie.Need-less-requires
 less-requires c κs =

@@ -12,10 +12,10 @@ use Rattle.means.proofs.sets.means.Statement.{statement}
 use Rattle.means.proofs.sets.means.Tie as tie
 
 abbrev Inv-loop : tie.InvT-loop
-Inv-loop marks count step stride values out₀ limits₀ j₀ out limits j = Made (placed values) marks count step stride out limits j
+Inv-loop marks count step stride powers values out₀ limits₀ j₀ out limits j = Made (placed values) marks count step stride out limits j
 
 abbrev μ-loop : tie.MeasureT-loop
-μ-loop marks count step stride values out₀ limits₀ j₀ out limits j = count - j
+μ-loop marks count step stride powers values out₀ limits₀ j₀ out limits j = count - j
 
 loop-holds : tie.Need-loop-holds Inv-loop μ-loop
 loop-holds c =
@@ -59,7 +59,7 @@ mean-requires c κs =
     let i = l .loop .j * b .args .step in
     let d = b .args .stride in
     let h = b .pre .1 .0 (l .loop .j) (omega arith) in
-    (b .pre .1 .1 i (omega arith), b .pre .1 .1 (i + d) (omega arith), b .pre .1 .1 (i + 2 * d) h)
+    ((b .pre .1 .1 .0 i (omega arith), b .pre .1 .1 .0 (i + d) (omega arith), b .pre .1 .1 .0 (i + 2 * d) h), b .pre .1 .1 .1)
 
 mul-out : tie.Need-mul-out Inv-loop μ-loop
 mul-out c = omega arith

@@ -32,20 +32,25 @@ within c = sym (c .before .all-in-range .ensures) ∙ not-false (c .before .all-
 widened-requires : tie.Need-widened-requires
 widened-requires c κs = search needs
 
+scaled-powers-requires : tie.Need-scaled-powers-requires
+scaled-powers-requires c κs = search needs
+
 cast-means : tie.Need-cast-means
 cast-means c = search needs
 
 means-requires : tie.Need-means-requires
 means-requires c κs =
-    let e = c .before .before .before in
+    let w = c .before .before .before in
+    let e = w .before .before in
     let b = e .before .before .before .before in
-    (omega arith, ((λ j h. omega arith), λ i h. widened-range (b .args .set) (c .before .widened .result) (within e) (c .before .widened .ensures .0) (c .before .widened .ensures .1) i))
+    (omega arith, ((λ j h. omega arith), ((λ i h. widened-range (b .args .set) (w .widened .result) (within e) (w .widened .ensures .0) (w .widened .ensures .1) i), c .before .before .scaled-powers .ensures)))
 
 returns-3 : tie.Need-returns-3
 returns-3 c =
-    let e = c .before .before .before .before in
+    let w = c .before .before .before .before in
+    let e = w .before .before in
     let b = e .before .before .before .before in
-    octaves-made (b .args .set) (c .before .before .widened .result) (c .means .result) (e .before .before .if1 .left) (within e) (c .before .before .widened .ensures .0) (c .means .ensures)
+    octaves-made (b .args .set) (w .widened .result) (c .means .result) (e .before .before .if1 .left) (within e) (w .widened .ensures .0) (c .means .ensures)
 
 pub octaves-spec : {M : Type 1} → statement M
 octaves-spec =
@@ -57,6 +62,7 @@ octaves-spec =
     refused-requires-2
     returns-2
     widened-requires
+    scaled-powers-requires
     cast-means
     means-requires
     returns-3)

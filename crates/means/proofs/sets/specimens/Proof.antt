@@ -26,11 +26,15 @@ refused-requires-2 c κs = search needs
 enum-told : tie.Need-enum-told
 enum-told c = search needs
 
+scaled-powers-requires : tie.Need-scaled-powers-requires
+scaled-powers-requires c κs = search needs
+
 means-requires : tie.Need-means-requires
 means-requires c κs =
-    let r = c .before .before .before in
+    let t = c .before .before .before in
+    let r = t .before .before in
     let a = r .before .before .args in
-    (omega arith, ((λ j h. omega arith), taken-values (a .readings) (a .len) (r .take-all .result) (r .before .if1 .left) (r .take-all .ensures) (c .before .enum-told .given .1)))
+    (omega arith, ((λ j h. omega arith), (taken-values (a .readings) (a .len) (r .take-all .result) (r .before .if1 .left) (r .take-all .ensures) (t .enum-told .given .1), c .before .scaled-powers .ensures)))
 
 returns-2 : tie.Need-returns-2
 returns-2 c =
@@ -41,9 +45,10 @@ returns-2 c =
 
 returns-3 : tie.Need-returns-3
 returns-3 c =
-    let r = c .before .before .before .before in
+    let t = c .before .before .before .before in
+    let r = t .before .before in
     let a = r .before .before .args in
-    specimens-made (a .readings) (a .len) (r .take-all .result) (r .before .if1 .left) (r .take-all .ensures) (c .means .result) (c .before .before .enum-told .given .1) (c .means .ensures)
+    specimens-made (a .readings) (a .len) (r .take-all .result) (r .before .if1 .left) (r .take-all .ensures) (c .means .result) (t .enum-told .given .1) (c .means .ensures)
 
 pub specimens-spec : {M : Type 1} → statement M
 specimens-spec =
@@ -55,6 +60,7 @@ specimens-spec =
     enum-known-outcome
     refused-requires-2
     enum-told
+    scaled-powers-requires
     means-requires
     returns-2
     returns-3)
