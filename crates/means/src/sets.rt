@@ -1,4 +1,5 @@
 // Means of three: octaves from thirds, and the means of three specimens.
+use curve::levels::all_in_range;
 use energy::mean_of_three;
 use intake::Intake;
 use intake::Outcome;
@@ -9,14 +10,13 @@ use quantity::Refusal;
 use quantity::Tenths;
 use quantity::signed::above;
 use quantity::signed::less;
-use rating::all_in_range;
 ghost use mathlib.Core.Path.{_≡_};
 ghost use mathlib.Core.Bool.{true};
 ghost use Prim.Native.Nat.{ℕ, _+_, _*_, _≤_, _<_};
 ghost use lib.ListN.{getD};
 ghost use Rattle.quantity.specs.Quantities.{inRange};
 ghost use Rattle.intake.specs.Lists.{weightOf, refusedList, nought};
-ghost use Rattle.rating.specs.Bands.{bit};
+ghost use Rattle.curve.specs.Bands.{bit};
 ghost use Rattle.means.specs.Means.{meanOf₃};
 ghost use Rattle.means.specs.Sets.{marked₃, placed, meansOf, octavesOf, specimensOf};
 

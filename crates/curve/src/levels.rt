@@ -10,9 +10,9 @@ ghost use lib.ListN.{length, getD};
 ghost use Rattle.laws.specs.Sums.{sumTo};
 ghost use Rattle.energy.specs.Energies.{F, Scaled};
 ghost use Rattle.quantity.specs.Quantities.{inRange};
-ghost use Rattle.rating.specs.Bands.{accepted};
-ghost use Rattle.rating.specs.Levels.{levelBy, Levels, at, totalAt, leastOf, energiesOf, Settled};
-ghost use Rattle.rating.specs.Levels.{Entries};
+ghost use Rattle.curve.specs.Bands.{accepted};
+ghost use Rattle.curve.specs.Levels.{levelBy, Levels, at, totalAt, leastOf, energiesOf, Settled};
+ghost use Rattle.curve.specs.Levels.{Entries};
 
 // Where the search ended, and how many shifts it made.
 pub struct Position {

@@ -1,9 +1,9 @@
--- `rating::levels::power_at` meets its contract: the table's entry, and 0 above it. Assumes nothing.
+-- `curve::levels::power_at` meets its contract: the table's entry, and 0 above it. Assumes nothing.
 use borrow.Author.Needs.{needs}
 use native.Mathlib.Omega.{arith}
 use Rattle.energy.proofs.Scaled.{F-above}
-use Rattle.rating.proofs.levels.power_at.Statement.{statement}
-use Rattle.rating.proofs.levels.power_at.Tie as tie
+use Rattle.curve.proofs.levels.power_at.Statement.{statement}
+use Rattle.curve.proofs.levels.power_at.Tie as tie
 
 returns : tie.Need-returns
 returns c = F-above (c .before .args .d) (c .if1 .taken)

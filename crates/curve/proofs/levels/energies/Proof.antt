@@ -1,4 +1,4 @@
--- `rating::levels::energies` meets its contract. The invariant: the sum of the energies of the bands passed. Assumes nothing.
+-- `curve::levels::energies` meets its contract. The invariant: the sum of the energies of the bands passed. Assumes nothing.
 use mathlib.Core.Path.{_≡_, refl, sym, _∙_, ap, subst}
 use mathlib.Core.Bool.{Bool, true, false}
 use mathlib.Core.Logic.{⊎-elim}
@@ -6,10 +6,10 @@ use Prim.Native.Nat.{ℕ, _+_, _*_, _-_, _≤_, _<_}
 use native.Mathlib.Omega.{arith}
 use borrow.Author.Needs.{needs}
 use lib.ListN.{length, getD}
-use Rattle.rating.specs.Levels.{at, energiesOf}
-use Rattle.rating.proofs.Walks.{energies-none, energies-more, energies-most}
-use Rattle.rating.proofs.levels.energies.Statement.{statement}
-use Rattle.rating.proofs.levels.energies.Tie as tie
+use Rattle.curve.specs.Levels.{at, energiesOf}
+use Rattle.curve.proofs.Walks.{energies-none, energies-more, energies-most}
+use Rattle.curve.proofs.levels.energies.Statement.{statement}
+use Rattle.curve.proofs.levels.energies.Tie as tie
 
 abbrev Inv-loop : tie.InvT-loop
 Inv-loop levels bands m powers sum₀ i₀ sum i =
