@@ -20,7 +20,7 @@ use Rattle.rating.specs.declared.sheets.Term.the-variants.{Given, Absent}
 use Rattle.rating.specs.declared.sheets.Rated.{Rated}
 use Rattle.rating.specs.declared.sheets.Rated.the-variants.{Rating, Refused}
 use Rattle.rating.specs.Kinds.{bandsOf}
-use Rattle.rating.specs.Bands.{accepted}
+use Rattle.curve.specs.Bands.{accepted}
 use Rattle.rating.specs.Sheets.{asked, sheetOf, ratedOf}
 use Rattle.products.specs.Bounds.{Small, SmallSheet}
 use Rattle.products.specs.Grades.{termOf}

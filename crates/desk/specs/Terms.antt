@@ -6,5 +6,5 @@ unfoldable pub use Rattle.quantity.specs.Quantities.{halfUp}
 pub use Rattle.rating.specs.declared.sheets.Term.{Term}
 pub use Rattle.rating.specs.declared.sheets.Sheet.{Sheet}
 pub use Rattle.rating.specs.Sheets.{firstBy, secondBy}
-unfoldable pub use Rattle.rating.specs.Bands.{accepted, limited}
+unfoldable pub use Rattle.curve.specs.Bands.{accepted, limited}
 unfoldable pub use Rattle.rating.specs.Sheets.{sheetOf}

@@ -14,12 +14,12 @@ use Rattle.quantity.specs.declared.refusals.Refusal.the-variants.{BandCount, Ba
 use Rattle.intake.specs.declared.lists.Outcome.{Outcome}
 use Rattle.intake.specs.declared.lists.Outcome.the-variants as outcome
 use Rattle.intake.specs.Lists.{listOf}
+use Rattle.curve.specs.Bands.{accepted}
 use Rattle.rating.specs.declared.kinds.Kind.{Kind}
 use Rattle.rating.specs.declared.kinds.Kind.the-variants.{A3}
 use Rattle.rating.specs.declared.sheets.Rated.{Rated}
 use Rattle.rating.specs.declared.sheets.Rated.the-variants.{Rating, Refused}
 use Rattle.rating.specs.Kinds.{bandsOf}
-use Rattle.rating.specs.Bands.{accepted}
 use Rattle.rating.specs.Sheets.{asked, sheetOf, ratedOf}
 use Rattle.products.specs.declared.grades.Side.{Side}
 use Rattle.means.specs.Sets.{specimensOf}

@@ -16,17 +16,18 @@ use Rattle.quantity.specs.Quantities.{bandOf}
 use Rattle.quantity.specs.declared.quantities.BandSet.{BandSet}
 use Rattle.quantity.specs.declared.refusals.Refusal.{Refusal}
 use Rattle.quantity.specs.declared.refusals.Refusal.the-variants.{BandCount, BandRange, NotBetter, TargetRange, NoRoom}
+use Rattle.curve.specs.Bands.{accepted}
+use Rattle.curve.specs.Levels.{at, levelBy, Entries}
+use Rattle.curve.proofs.Searched.{count-most}
 use Rattle.rating.specs.declared.kinds.Kind.{Kind}
 use Rattle.rating.specs.declared.kinds.Numbers.{Numbers}
 use Rattle.rating.specs.declared.sheets.Sheet.{Sheet}
 use Rattle.rating.specs.declared.sheets.Rated.{Rated}
 use Rattle.rating.specs.declared.sheets.Rated.the-variants.{Rating, Refused as Unrated}
 use Rattle.rating.specs.Kinds.{airborne, bandsOf, limitOf}
-use Rattle.rating.specs.Bands.{accepted}
 use Rattle.rating.specs.Curve.{ratingOf}
-use Rattle.rating.specs.Levels.{at, levelBy, entriesOf, numbersOf, ratingAt, Entries}
+use Rattle.rating.specs.Numbers.{entriesOf, numbersOf, ratingAt}
 use Rattle.rating.specs.Sheets.{asked, sheetOf, ratedOf}
-use Rattle.rating.proofs.Searched.{count-most}
 use Rattle.rating.proofs.Facts.{count-of, entries-fit}
 use Rattle.sets.specs.Gains.{byGains, Countable, Gained}
 use Rattle.sets.proofs.Tests.{is-true, is-false}

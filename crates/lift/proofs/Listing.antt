@@ -19,19 +19,19 @@ use Rattle.laws.proofs.Sums.{sum-same, sum-plus}
 use Rattle.quantity.specs.Quantities.{inRange, bandOf}
 use Rattle.quantity.specs.declared.quantities.BandSet.{BandSet}
 use Rattle.quantity.proofs.Rim.{sum-value, difference-value}
+use Rattle.curve.specs.Bands.{accepted, anyTo, bit}
+use Rattle.curve.specs.Levels.{at, levelBy, levelAt, startAt}
+use Rattle.curve.proofs.Walks.{total-most}
+use Rattle.curve.proofs.Counted.{counted, level-parts}
+use Rattle.curve.proofs.Searched.{band-in, count-most, found}
 use Rattle.rating.specs.declared.kinds.Kind.{Kind}
 use Rattle.rating.specs.declared.kinds.Kind.the-variants.{A3, A1, I3, I1}
 use Rattle.rating.specs.Kinds.{airborne, bandsOf, limitOf, referenceOf}
-use Rattle.rating.specs.Bands.{accepted, anyTo, bit}
 use Rattle.rating.specs.Curve.{deficitBy, deficit, total, within, ratingOf}
-use Rattle.rating.specs.Levels.{at, entryBy, entriesOf, levelBy, levelAt, startAdd, startAt, ratingAt, ratingBy}
-use Rattle.rating.proofs.Walks.{total-most}
-use Rattle.rating.proofs.Counted.{counted, level-parts}
-use Rattle.rating.proofs.Searched.{band-in, count-most}
+use Rattle.rating.specs.Numbers.{entryBy, entriesOf, startAdd, ratingAt, ratingBy}
 use Rattle.rating.proofs.Bridge.{positionBy, EntryOf, entry-parts, deficit-level, listed-is}
 use Rattle.rating.proofs.Facts.{count-of, entries-fit}
 use Rattle.rating.proofs.Meaning.{total-is, rating-is}
-use Rattle.rating.proofs.Theorems.{found}
 use Rattle.sets.specs.Masks.{isMask, smaller, choose, masksInOrder, filter}
 use Rattle.sets.specs.Highest.{highest}
 use Rattle.sets.specs.Gains.{targetAt, lacking, gain, gainsOf, listedBy, byGains, Countable, Gained}

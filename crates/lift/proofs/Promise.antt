@@ -13,11 +13,11 @@ use lib.Seq.{getD-append-add, getD-drop}
 use Rattle.quantity.specs.Quantities.{bandOf}
 use Rattle.quantity.specs.declared.quantities.BandSet.{BandSet}
 use Rattle.quantity.specs.declared.refusals.Refusal.the-variants.{NotBetter, TargetRange, NoRoom}
+use Rattle.curve.specs.Bands.{allTo}
 use Rattle.rating.specs.declared.kinds.Kind.{Kind}
 use Rattle.rating.specs.declared.sheets.Rated.{Rated}
 use Rattle.rating.specs.declared.sheets.Rated.the-variants.{Rating, Refused as Unrated}
 use Rattle.rating.specs.Kinds.{airborne, bandsOf}
-use Rattle.rating.specs.Bands.{allTo}
 use Rattle.rating.specs.Sheets.{ratedOf}
 use Rattle.sets.specs.Masks.{isMask, smaller, before, masksInOrder}
 use Rattle.sets.proofs.Tests.{and-left, and-right, and-both, all-read, all-made}

@@ -11,12 +11,13 @@ use Rattle.laws.specs.Sums.{sumTo, sumℤ}
 use Rattle.quantity.specs.Quantities.{inRange, bandOf}
 use Rattle.quantity.specs.declared.quantities.Tenths.{Tenths}
 use Rattle.quantity.specs.declared.quantities.BandSet.{BandSet}
+use Rattle.curve.specs.Bands.{accepted, allTo}
+use Rattle.curve.specs.Levels.{levelBy, levelAt, totalAt}
 use Rattle.rating.specs.declared.kinds.Kind.{Kind}
 use Rattle.rating.specs.declared.kinds.Kind.the-variants.{A3}
 use Rattle.rating.specs.Kinds.{airborne, bandsOf, limitOf, referenceOf, referencesOf}
-use Rattle.rating.specs.Bands.{accepted, allTo}
 use Rattle.rating.specs.Curve.{deficit, total, within, startOf, shifted, firstFrom, shiftsOf, positionOf, ratingOf}
-use Rattle.rating.specs.Levels.{listed, entriesOf, levelBy, levelAt, totalAt, ratingAt}
+use Rattle.rating.specs.Numbers.{listed, entriesOf, ratingAt}
 use Rattle.rating.proofs.Bridge.{listed-is}
 use Rattle.sets.specs.Masks.{choose, masksInOrder, filter}
 use Rattle.sets.specs.Gains.{gainsOf, leastOf, listedBy, byGains, gainAt, Gained}

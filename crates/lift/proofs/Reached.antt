@@ -15,12 +15,12 @@ use Rattle.laws.proofs.Sums.{sum-same, sum-mono, sumℤ-same}
 use Rattle.quantity.specs.Quantities.{inRange, bandOf}
 use Rattle.quantity.specs.declared.quantities.Tenths.{Tenths}
 use Rattle.quantity.specs.declared.quantities.BandSet.{BandSet}
+use Rattle.curve.specs.Bands.{accepted, bit}
+use Rattle.curve.proofs.Walks.{all-made}
+use Rattle.curve.proofs.Searched.{band-in, count-most}
 use Rattle.rating.specs.declared.kinds.Kind.{Kind}
 use Rattle.rating.specs.Kinds.{airborne, bandsOf, limitOf, referenceOf}
-use Rattle.rating.specs.Bands.{accepted, bit}
 use Rattle.rating.specs.Curve.{deficitBy, deficit, total, within, stricterBy, IsPosition, startOf, startBy, shifted, firstFrom, shiftsOf, positionOf, takenOff, ratingOf}
-use Rattle.rating.proofs.Walks.{all-made}
-use Rattle.rating.proofs.Searched.{band-in, count-most}
 use Rattle.rating.proofs.Facts.{count-of}
 use Rattle.rating.proofs.Theorems.{position-best}
 use Rattle.sets.specs.Highest.{highest}

@@ -6,9 +6,9 @@ use Prim.Native.Nat.{ℕ, _<_}
 use lib.Dec.{T}
 use lib.IntN.{ℤ}
 use lib.Signed.{leZ, ltZ}
+use Rattle.curve.specs.Bands.{allTo, bit}
 use Rattle.rating.specs.declared.kinds.Kind.{Kind}
 use Rattle.rating.specs.Kinds.{airborne, bandsOf}
-use Rattle.rating.specs.Bands.{allTo, bit}
 use Rattle.rating.specs.Curve.{ratingOf}
 use Rattle.sets.specs.Masks.{isMask, smaller, masksInOrder, filter}
 use Rattle.sets.specs.Highest.{highest}

@@ -13,8 +13,8 @@ use Rattle.quantity.proofs.Rim.{range-read, range-yes}
 use Rattle.energy.specs.Energies.{F}
 use Rattle.energy.specs.Means.{v, least₃, sum₃, mean₃}
 use Rattle.energy.proofs.Between.{greatest₃, mean-between}
+use Rattle.curve.proofs.Counted.{Up}
 use Rattle.rating.specs.Terms.{lesser, greater}
-use Rattle.rating.proofs.Weighing.{Up}
 use Rattle.means.specs.Means.{leastOf₃, energiesOf₃, meanOf₃}
 
 lesser-up : (c : ℕ) (x y : ℤ) (a b : ℕ) → Up c x a → Up c y b → Up c (lesser x y) (min a b)

@@ -17,12 +17,12 @@ use Rattle.intake.specs.declared.lists.Readings.{Readings}
 use Rattle.intake.specs.declared.lists.Intake.{Intake}
 use Rattle.intake.specs.Lists.{nought, allOf, refusalIn}
 use Rattle.intake.proofs.Runs.{outcome-is}
+use Rattle.curve.specs.Bands.{accepted, bit}
+use Rattle.curve.proofs.Walks.{all-made}
+use Rattle.curve.proofs.Searched.{band-in}
 use Rattle.rating.specs.declared.kinds.Kind.the-variants.{A1}
 use Rattle.rating.specs.declared.sheets.Rated.the-variants.{Rating}
-use Rattle.rating.specs.Bands.{accepted, bit}
 use Rattle.rating.specs.Sheets.{sheetOf, ratedOf}
-use Rattle.rating.proofs.Walks.{all-made}
-use Rattle.rating.proofs.Searched.{band-in}
 use Rattle.rating.proofs.Rated.{in-order}
 use Rattle.rooms.specs.Background.{tenths}
 use Rattle.means.specs.Sets.{placed, meanAt, markAt, meansOf, octavesOf, specimensOf}

@@ -21,8 +21,8 @@ use Rattle.intake.specs.declared.lists.Intake.{Intake}
 use Rattle.intake.specs.Lists.{weightOf, listed, nought, allOf, refusedList}
 use Rattle.intake.proofs.Runs.{outcome-is, accepted-is}
 use Rattle.intake.proofs.Meaning.{value-range}
-use Rattle.rating.specs.Bands.{accepted}
-use Rattle.rating.proofs.Searched.{band-in}
+use Rattle.curve.specs.Bands.{accepted}
+use Rattle.curve.proofs.Searched.{band-in}
 use Rattle.rooms.specs.Background.{tenths}
 use Rattle.means.specs.Sets.{marksTo, meanAt, markAt, meansOf, octavesOf, placed, specimensBy, specimensOf}
 use Rattle.means.proofs.Filling.{Filled, filled-none, filled-more, filled-list}

@@ -16,7 +16,7 @@ use Rattle.intake.specs.declared.lists.Outcome.the-variants.{Accepted, Refused}
 use Rattle.intake.specs.declared.lists.Readings.{Readings}
 use Rattle.intake.specs.declared.lists.Intake.{Intake}
 use Rattle.intake.specs.Lists.{weightOf, listed, nought, allOf, refusedList}
-use Rattle.rating.specs.Bands.{accepted, bit}
+use Rattle.curve.specs.Bands.{accepted, bit}
 use Rattle.rooms.specs.Background.{tenths}
 use Rattle.means.specs.Means.{meanOf₃}
 

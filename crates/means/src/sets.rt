@@ -1,4 +1,5 @@
 // Means of three: octaves from thirds, and the means of three specimens.
+use curve::levels::all_in_range;
 use energy::mean_of_three;
 use energy::scaled_powers;
 use intake::Intake;
@@ -10,7 +11,6 @@ use quantity::Refusal;
 use quantity::Tenths;
 use quantity::signed::above;
 use quantity::signed::less;
-use rating::all_in_range;
 ghost use mathlib.Core.Path.{_≡_};
 ghost use mathlib.Core.Bool.{true};
 ghost use Prim.Native.Nat.{ℕ, _+_, _*_, _≤_, _<_};
@@ -18,7 +18,7 @@ ghost use lib.ListN.{getD};
 ghost use Rattle.energy.specs.Energies.{Scaled};
 ghost use Rattle.quantity.specs.Quantities.{inRange};
 ghost use Rattle.intake.specs.Lists.{weightOf, refusedList, nought};
-ghost use Rattle.rating.specs.Bands.{bit};
+ghost use Rattle.curve.specs.Bands.{bit};
 ghost use Rattle.means.specs.Means.{meanOf₃};
 ghost use Rattle.means.specs.Sets.{marked₃, placed, meansOf, octavesOf, specimensOf};
 

@@ -10,13 +10,14 @@ use Rattle.laws.specs.Sums.{sumTo, sumℤ}
 use Rattle.quantity.specs.Quantities.{halfUp, inRange}
 use Rattle.energy.specs.Energies.{F, energyRule, u, levelRule}
 use Rattle.energy.specs.Corrections.{c, k, backgroundRule, timeRule}
+use Rattle.curve.specs.Bands.{accepted, limited, allTo, anyTo}
+use Rattle.curve.specs.Levels.{levelBy, totalAt}
 use Rattle.rating.specs.declared.kinds.Kind.{Kind}
 use Rattle.rating.specs.declared.kinds.Kind.the-variants.{A3}
 use Rattle.rating.specs.Kinds.{referencesOf, referenceOf, spectraC, spectraCtr, C, Ctr}
-use Rattle.rating.specs.Bands.{accepted, limited, allTo, anyTo}
 use Rattle.rating.specs.Curve.{deficit, total, within, startOf, shifted, firstFrom, shiftsOf, positionOf, ratingOf}
 use Rattle.rating.specs.Terms.{leastTo, greatestTo, weighted, airborneTerm, impactTerm}
-use Rattle.rating.specs.Levels.{listed, entriesOf, levelBy, totalAt}
+use Rattle.rating.specs.Numbers.{listed, entriesOf}
 use Rattle.rating.specs.Sheets.{sheetOf, ratedOf}
 use Rattle.sets.specs.Masks.{choose, masksInOrder, filter}
 use Rattle.lift.specs.Reach.{liftList}

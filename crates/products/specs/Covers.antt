@@ -9,11 +9,11 @@ use Rattle.quantity.specs.Quantities.{bandOf}
 use Rattle.quantity.specs.declared.quantities.BandSet.{BandSet}
 use Rattle.quantity.specs.declared.refusals.Refusal.the-variants.{BandCount, BandRange, DerivedRange}
 use Rattle.intake.specs.Lists.{listed}
+use Rattle.curve.specs.Bands.{accepted, limited}
 use Rattle.rating.specs.declared.kinds.Kind.the-variants.{I3}
 use Rattle.rating.specs.declared.sheets.Sheet.{Sheet}
 use Rattle.rating.specs.declared.sheets.Rated.{Rated}
 use Rattle.rating.specs.declared.sheets.Rated.the-variants as rated
-use Rattle.rating.specs.Bands.{accepted, limited}
 use Rattle.rating.specs.Sheets.{ratedOf, decibels}
 use Rattle.rooms.specs.Background.{tenths}
 use Rattle.products.specs.declared.covers.Cover.{Cover}

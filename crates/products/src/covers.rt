@@ -1,4 +1,5 @@
 // The weighted improvement of a floor cover.
+use curve::levels::all_in_range;
 use quantity::BandSet;
 use quantity::Decibels;
 use quantity::Refusal;
@@ -8,14 +9,13 @@ use quantity::signed::less;
 use rating::Kind;
 use rating::Rated;
 use rating::Sheet;
-use rating::all_in_range;
 use rating::rate;
 ghost use mathlib.Core.Path.{_≡_};
 ghost use mathlib.Core.Bool.{true};
 ghost use Prim.Native.Nat.{_<_};
 ghost use lib.IntN.{_-ℤ_};
 ghost use Rattle.quantity.specs.Quantities.{inRange};
-ghost use Rattle.rating.specs.Bands.{accepted};
+ghost use Rattle.curve.specs.Bands.{accepted};
 ghost use Rattle.products.specs.Bounds.{SmallSheet};
 ghost use Rattle.products.specs.Covers.{floorAt, derivedSet, improvementOf, coverOf};
 

@@ -14,13 +14,12 @@ use lib.IntN.{ℤ, pos, negsuc, negℤ, _+ℤ_, _-ℤ_, _*ℤ_}
 use lib.ListN.{length, getD}
 use lib.Signed.{shrZ, _≤ℤ_}
 use Rattle.laws.specs.Parts.{P, N}
-use Rattle.laws.specs.Sums.{sumTo, sumℤ}
 use Rattle.laws.proofs.Ints.{ints, plus, minus, opposite, apart, times-P, times-N, le-made, eq-made}
 use Rattle.laws.proofs.Floor.{IsFloor, floor-unique}
-use Rattle.laws.proofs.Sums.{sum-same, sum-mono, sum-plus, sum-const, sumℤ-parts}
+use Rattle.curve.specs.Levels.{bottom}
+use Rattle.curve.proofs.Counted.{PartsOf}
 use Rattle.rating.specs.Curve.{deficitBy, startBy, shiftedBy, stricterBy, floorOf, ceilingOf, firstFrom}
-use Rattle.rating.specs.Levels.{entryBy, levelBy, listed, totalAt, Settled, startAt, bottom, Entries}
-use Rattle.rating.proofs.Counted.{Counted, PartsOf, level-parts}
+use Rattle.rating.specs.Numbers.{entryBy, listed}
 
 -- position p in decibels
 abbrev pub positionBy : Bool → ℕ → ℤ
@@ -114,17 +113,3 @@ first-is ok tries d h f t =
   where
     none : (i : ℕ) → 0 + i ≡ i
     none i = omega arith
-
--- ---- past the start every position is over the limit
-pub over-past : (f : ℕ → ℕ) (n add p : ℕ) → 0 < n → startAt f n add < p → add < totalAt f n p
-unfolding totalAt
-over-past f n add p h k =
-    let m : ℕ = 10 * n in
-    let S : ℕ = sumTo f n in
-    let d : (S + add) / m * m + (S + add) % m ≡ S + add = div-add-mod' (S + add) m in
-    let r : (S + add) % m < m = mod-lt (S + add) (omega arith) in
-    let a : sumTo (λ i. 10 * p) n ≤ sumTo (λ i. (10 * p - f i) + f i) n = sum-mono (λ i. 10 * p) (λ i. (10 * p - f i) + f i) n (λ i q. omega arith) in
-    let b : sumTo (λ i. (10 * p - f i) + f i) n ≡ sumTo (λ i. 10 * p - f i) n + S = sum-plus (λ i. 10 * p - f i) f n in
-    let c : sumTo (λ i. 10 * p) n ≡ n * (10 * p) = sum-const (10 * p) n in
-    let w : m * suc ((S + add) / m) ≤ m * p = native.Mathlib.Nat.mul-le-mul-left m k in
-    omega arith

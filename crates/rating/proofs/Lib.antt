@@ -1,7 +1,4 @@
 -- Laws of the rating.
-pub mod Walks
-pub mod Counted
-pub mod Searched
 pub mod Bridge
 pub mod Facts
 pub mod Meaning

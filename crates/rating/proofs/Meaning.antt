@@ -18,15 +18,16 @@ use Rattle.laws.proofs.Ints.{ints, plus, minus, apart, le-made, eq-made}
 use Rattle.laws.proofs.Sums.{sum-same, sum-plus, sumℤ-parts}
 use Rattle.quantity.specs.Quantities.{bandOf}
 use Rattle.quantity.specs.declared.quantities.BandSet.{BandSet}
+use Rattle.curve.specs.Bands.{accepted}
+use Rattle.curve.specs.Levels.{at, levelBy, levelAt, startAt, totalAt, Settled}
+use Rattle.curve.proofs.Counted.{Counted, PartsOf, counted, level-parts}
+use Rattle.curve.proofs.Searched.{band-in, count-most, count-some, sum-small, start-small, over-past}
 use Rattle.rating.specs.declared.kinds.Kind.{Kind}
 use Rattle.rating.specs.declared.kinds.Kind.the-variants.{A3, A1, I3, I1}
 use Rattle.rating.specs.Kinds.{airborne, bandsOf, limitOf, referenceOf}
-use Rattle.rating.specs.Bands.{accepted}
 use Rattle.rating.specs.Curve.{deficitBy, deficit, total, within, stricterBy, IsPosition, startOf, shiftedBy, shifted, shiftsOf, positionOf, takenOff, ratingOf}
-use Rattle.rating.specs.Levels.{at, entryBy, entriesOf, levelBy, levelAt, startAdd, startAt, totalAt, Settled, ratingAt, ratingBy}
-use Rattle.rating.proofs.Counted.{Counted, PartsOf, counted, level-parts}
-use Rattle.rating.proofs.Searched.{band-in, count-most, count-some, sum-small, start-small}
-use Rattle.rating.proofs.Bridge.{positionBy, EntryOf, entry-parts, deficit-level, listed-is, SumOf, start-is, shifted-is, first-is, over-past}
+use Rattle.rating.specs.Numbers.{entryBy, entriesOf, startAdd, ratingAt, ratingBy}
+use Rattle.rating.proofs.Bridge.{positionBy, EntryOf, entry-parts, deficit-level, listed-is, SumOf, start-is, shifted-is, first-is}
 use Rattle.rating.proofs.Facts.{count-of, entries-fit, add-small, tuned-of, limit-below}
 
 -- the sum of levels and the sum of values, from band to band

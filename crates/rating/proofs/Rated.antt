@@ -6,14 +6,14 @@ use lib.Dec.{eqb}
 use borrow.Author.Tests.{eq-eqb, ne-eqb}
 use Rattle.quantity.specs.declared.quantities.BandSet.{BandSet}
 use Rattle.quantity.specs.declared.refusals.Refusal.the-variants.{BandCount, BandRange}
+use Rattle.curve.specs.Bands.{accepted}
 use Rattle.rating.specs.declared.kinds.Kind.{Kind}
 use Rattle.rating.specs.declared.kinds.Numbers.{Numbers}
 use Rattle.rating.specs.declared.sheets.Sheet.{Sheet}
 use Rattle.rating.specs.declared.sheets.Rated.{Rated}
 use Rattle.rating.specs.declared.sheets.Rated.the-variants.{Rating, Refused}
 use Rattle.rating.specs.Kinds.{bandsOf}
-use Rattle.rating.specs.Bands.{accepted}
-use Rattle.rating.specs.Levels.{numbersOf}
+use Rattle.rating.specs.Numbers.{numbersOf}
 use Rattle.rating.specs.Sheets.{ratedOf, sheetOf, asked}
 
 -- the count of the numbers fetched is the kind's

@@ -12,23 +12,24 @@ use Rattle.laws.proofs.Ints.{minus, apart, times-P, times-N}
 use Rattle.quantity.specs.Quantities.{halfUp, bandOf}
 use Rattle.quantity.specs.declared.quantities.BandSet.{BandSet}
 use Rattle.quantity.specs.declared.quantities.Decibels.{Decibels}
+use Rattle.curve.specs.Bands.{accepted, limited, anyTo, bit}
+use Rattle.curve.specs.Levels.{at, levelBy, levelAt, bottom, Entries}
+use Rattle.curve.proofs.Counted.{Counted, PartsOf, counted, level-parts, Up, Down}
+use Rattle.curve.proofs.Searched.{band-in, count-most, count-some}
 use Rattle.rating.specs.declared.kinds.Kind.{Kind}
 use Rattle.rating.specs.declared.kinds.Numbers.{Numbers}
 use Rattle.rating.specs.declared.sheets.Sheet.{Sheet}
 use Rattle.rating.specs.declared.sheets.Term.{Term}
 use Rattle.rating.specs.declared.sheets.Term.the-variants.{Given, Absent}
 use Rattle.rating.specs.Kinds.{airborne, bandsOf, limitOf, C, Ctr}
-use Rattle.rating.specs.Bands.{accepted, limited, anyTo, bit}
 use Rattle.rating.specs.Curve.{ratingOf, shiftsOf}
 use Rattle.rating.specs.Terms.{less, airborneTerm, impactTerm}
 use Rattle.rating.specs.Sheets.{decibels, firstBy, secondBy, sheetOf}
-use Rattle.rating.specs.Levels.{at, weightBy, levelBy, levelAt, bottom, Entries, entriesOf, firstOf, secondOf, numbersOf, Sound, Sought, ratingAt, ratingBy, termOf}
-use Rattle.rating.proofs.Counted.{Counted, PartsOf, counted, level-parts}
-use Rattle.rating.proofs.Searched.{band-in, count-most, count-some}
+use Rattle.rating.specs.Numbers.{weightBy, entriesOf, firstOf, secondOf, numbersOf, Sound, Sought, ratingAt, ratingBy, termOf}
 use Rattle.rating.proofs.Bridge.{listed-is}
 use Rattle.rating.proofs.Facts.{count-of, first-fit, second-fit, sound-of}
 use Rattle.rating.proofs.Meaning.{rating-is, shifts-is, start-below}
-use Rattle.rating.proofs.Weighing.{Up, Down, airborne-term, impact-term}
+use Rattle.rating.proofs.Weighing.{airborne-term, impact-term}
 
 -- an airborne weight, by the parts of its spectrum value
 weight-parts : (L : ℤ) → 200 ≤ weightBy true L → weightBy true L + 10 * P L ≡ 200 + 10 * N L

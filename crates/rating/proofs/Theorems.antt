@@ -6,7 +6,6 @@ use mathlib.Core.Bool.{Bool, true, false, cond, _&&_, _||_}
 use mathlib.Core.List.{List, [], _∷_}
 use Prim.Native.Nat.{ℕ, zero, suc, _+_, _*_, _-_, _≤_, _<_}
 use native.Mathlib.Nat.{le-refl, not-suc-le-zero, add-zero, add-suc, suc-add}
-use native.Mathlib.Decide.{decLe}
 use native.Mathlib.Omega.{arith}
 use lib.Dec.{T, eqb, leb}
 use lib.IntN.{ℤ, pos, _+ℤ_, _-ℤ_, _*ℤ_}
@@ -21,47 +20,22 @@ use Rattle.quantity.specs.declared.quantities.BandSet.{BandSet}
 use Rattle.quantity.specs.declared.quantities.Tenths.{Tenths}
 use Rattle.quantity.specs.declared.refusals.Refusal.the-variants.{BandCount, BandRange}
 use Rattle.energy.specs.Energies.{F, u}
+use Rattle.curve.specs.Bands.{allTo, anyTo, bit, accepted, limited}
+use Rattle.curve.specs.Levels.{levelAt, startAt}
+use Rattle.curve.proofs.Walks.{all-made}
+use Rattle.curve.proofs.Searched.{count-most, count-some, found}
 use Rattle.rating.specs.declared.kinds.Kind.{Kind}
 use Rattle.rating.specs.declared.sheets.Rated.{Rated}
 use Rattle.rating.specs.declared.sheets.Rated.the-variants.{Rating, Refused}
 use Rattle.rating.specs.declared.sheets.Sheet.{Sheet}
 use Rattle.rating.specs.declared.sheets.Term.the-variants.{Given}
 use Rattle.rating.specs.Kinds.{airborne, bandsOf, limitOf, referenceOf, C, Ctr}
-use Rattle.rating.specs.Bands.{allTo, anyTo, bit, accepted, limited}
 use Rattle.rating.specs.Curve.{deficit, total, within, stricterBy, IsPosition, startBy, startOf, shiftedBy, shifted, firstFrom, shiftsOf, positionOf, takenOff, ratingOf}
 use Rattle.rating.specs.Terms.{lesser, greater, leastTo, greatestTo, less, weighted, airborneTerm, impactTerm}
 use Rattle.rating.specs.Sheets.{firstBy, secondBy, sheetOf, ratedOf, asked}
-use Rattle.rating.specs.Levels.{levelAt, entriesOf, startAdd, startAt, totalAt, Settled}
-use Rattle.rating.proofs.Walks.{total-zero, next-over, all-made}
-use Rattle.rating.proofs.Searched.{count-most, count-some}
+use Rattle.rating.specs.Numbers.{entriesOf, startAdd}
 use Rattle.rating.proofs.Facts.{count-of}
 use Rattle.rating.proofs.Meaning.{is-position}
-
--- ---- the search always ends
-pub record Found (f : ℕ → ℕ) (n limit start : ℕ) : Type 0 where
-  pub place : ℕ
-  pub moves : ℕ
-  pub settled : Settled f n limit start place moves
-
--- stop here, or go on below
-choose : (f : ℕ → ℕ) (n limit start p shifts : ℕ) → p + shifts ≡ start → ((s : ℕ) → s < shifts → limit < totalAt f n (start - s))
-    → (limit < totalAt f n p → Found f n limit start) → Dec (totalAt f n p ≤ limit) → Found f n limit start
-choose f n limit start p shifts e over next (yes h) =
-    record { place = p; moves = shifts; settled = record { distance = e; fits = h; over = over } }
-choose f n limit start p shifts e over next (no h) = next (omega arith)
-
-down-from : (f : ℕ → ℕ) (n limit start p shifts : ℕ) → p + shifts ≡ start → ((s : ℕ) → s < shifts → limit < totalAt f n (start - s))
-    → Found f n limit start
-down-from f n limit start zero shifts e over =
-    choose f n limit start 0 shifts e over (λ h. absurd (omega (arith, total-zero f n))) (decLe (totalAt f n 0) limit)
-down-from f n limit start (suc p) shifts e over =
-    choose f n limit start (suc p) shifts e over
-    (λ h. down-from f n limit start p (shifts + 1) (omega arith)
-    (next-over f n limit start (suc p) shifts (totalAt f n (suc p)) e refl h over))
-    (decLe (totalAt f n (suc p)) limit)
-
-pub found : (f : ℕ → ℕ) (n limit start : ℕ) → Found f n limit start
-found f n limit start = down-from f n limit start start 0 (omega arith) (λ s h. absurd (omega arith))
 
 -- ---- "The rating is the greatest whole X whose deficits total at most the limit", "take the least whole Y"
 pub position-best : (k : Kind) (s : BandSet) → accepted s (bandsOf k) ≡ true → IsPosition k (bandOf s) (positionOf k (bandOf s))

@@ -15,23 +15,18 @@ use Rattle.laws.proofs.Extremes.{greatest-below}
 use Rattle.laws.proofs.Ints.{ints, plus, minus, apart, times-P, times-N, eq-made, le-yes, le-no}
 use Rattle.laws.proofs.Sums.{sum-same}
 use Rattle.energy.specs.Energies.{F, u, levelRule}
+use Rattle.curve.specs.Levels.{minTo, leastOf, energiesOf}
+use Rattle.curve.proofs.Walks.{min-below}
+use Rattle.curve.proofs.Counted.{Up, Down}
 use Rattle.rating.specs.declared.kinds.Kind.{Kind}
 use Rattle.rating.specs.Kinds.{bandsOf}
 use Rattle.rating.specs.Curve.{ratingOf}
 use Rattle.rating.specs.Terms.{lesser, greater, leastTo, greatestTo, less, leastEnergies, greatestEnergies, weighted, airborneTerm, impactTerm}
-use Rattle.rating.specs.Levels.{weightBy, minTo, leastOf, energiesOf, ratingBy, termBy, termOf}
-use Rattle.rating.proofs.Walks.{min-below}
+use Rattle.rating.specs.Numbers.{weightBy, ratingBy, termBy, termOf}
 
 pub u-small : (S : ℕ) → u S < 256
 unfolding u
 u-small S = greatest-below 8 (levelRule S)
-
--- the level g counts a from c, or counts down from c
-abbrev pub Up : ℕ → ℤ → ℕ → Type 0
-Up c a g = g + N a ≡ c + P a
-
-abbrev pub Down : ℕ → ℤ → ℕ → Type 0
-Down c a g = g + P a ≡ c + N a
 
 lesser-up : (c : ℕ) (a b : ℤ) (g h : ℕ) → Up c a g → Up c b h → Up c (lesser a b) (min g h)
 lesser-up c a b g h p q = go (leZ a b) refl

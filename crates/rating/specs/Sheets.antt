@@ -8,6 +8,7 @@ use Rattle.quantity.specs.Quantities.{halfUp, bandOf}
 use Rattle.quantity.specs.declared.quantities.BandSet.{BandSet}
 use Rattle.quantity.specs.declared.quantities.Decibels.{Decibels}
 use Rattle.quantity.specs.declared.refusals.Refusal.the-variants.{BandCount, BandRange}
+use Rattle.curve.specs.Bands.{accepted, limited}
 use Rattle.rating.specs.declared.kinds.Kind.{Kind}
 use Rattle.rating.specs.declared.sheets.Term.{Term}
 use Rattle.rating.specs.declared.sheets.Term.the-variants.{Given, Absent}
@@ -15,7 +16,6 @@ use Rattle.rating.specs.declared.sheets.Sheet.{Sheet}
 use Rattle.rating.specs.declared.sheets.Rated.{Rated}
 use Rattle.rating.specs.declared.sheets.Rated.the-variants.{Rating, Refused}
 use Rattle.rating.specs.Kinds.{airborne, bandsOf, C, Ctr}
-use Rattle.rating.specs.Bands.{accepted, limited}
 use Rattle.rating.specs.Curve.{ratingOf, shiftsOf}
 use Rattle.rating.specs.Terms.{airborneTerm, impactTerm}
 

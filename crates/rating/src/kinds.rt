@@ -4,7 +4,7 @@
 // for airborne a level is the value and an entry (24 dB less K), for impact an entry less the value (168 dB and K). A deficit
 // at position p is then 10 p less the level, and position p is p - 24 dB for airborne, 168 - p dB for impact.
 ghost use mathlib.Core.Path.{_≡_};
-ghost use Rattle.rating.specs.Levels.{entriesOf, firstOf, secondOf, numbersOf};
+ghost use Rattle.rating.specs.Numbers.{entriesOf, firstOf, secondOf, numbersOf};
 
 pub enum Kind {
     A3,

@@ -3,13 +3,11 @@
 // A kind is a type that owns its numbers; one search serves all four. The search counts its own shifts, and the sheet is
 // proved equal to the definitions in `specs/`, for every kind, every length and every value.
 mod kinds;
-mod levels;
 mod sheets;
 
 pub use kinds::Kind;
 pub use kinds::Numbers;
 pub use kinds::numbers_of;
-pub use levels::all_in_range;
 pub use sheets::Rated;
 pub use sheets::Sheet;
 pub use sheets::Term;

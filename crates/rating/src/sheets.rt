@@ -2,13 +2,13 @@
 use crate::kinds::Kind;
 use crate::kinds::Numbers;
 use crate::kinds::numbers_of;
-use crate::levels::Position;
-use crate::levels::all_in_range;
-use crate::levels::energies;
-use crate::levels::least;
-use crate::levels::levels;
-use crate::levels::settle;
-use crate::levels::sum;
+use curve::levels::Position;
+use curve::levels::all_in_range;
+use curve::levels::energies;
+use curve::levels::least;
+use curve::levels::levels;
+use curve::levels::settle;
+use curve::levels::sum;
 use energy::level;
 use energy::level_starts;
 use energy::level_thresholds;
@@ -23,9 +23,10 @@ ghost use mathlib.Core.Bool.{true};
 ghost use Prim.Native.Nat.{ℕ, _+_, _*_, _/_, _≤_, _<_};
 ghost use Rattle.energy.specs.Energies.{Tables};
 ghost use Rattle.quantity.specs.Quantities.{halfUp};
-ghost use Rattle.rating.specs.Bands.{accepted, anyTo, bit};
+ghost use Rattle.curve.specs.Bands.{accepted, anyTo, bit};
+ghost use Rattle.curve.specs.Levels.{Entries, Count, at, levelAt};
 ghost use Rattle.rating.specs.Kinds.{bandsOf};
-ghost use Rattle.rating.specs.Levels.{Entries, Count, Sound, Sought, WeighedOf, at, levelAt, ratingBy, termBy, termOf};
+ghost use Rattle.rating.specs.Numbers.{Sound, Sought, WeighedOf, ratingBy, termBy, termOf};
 ghost use Rattle.rating.specs.Sheets.{sheetOf, ratedOf};
 
 // A spectrum term, where the kind has it.

@@ -11,7 +11,7 @@ use Rattle.rating.specs.declared.kinds.Kind.{Kind}
 use Rattle.rating.specs.declared.kinds.Kind.the-variants.{A3}
 use Rattle.rating.specs.declared.sheets.Rated.{Rated}
 use Rattle.rating.specs.declared.sheets.Rated.the-variants.{Refused}
-use Rattle.rating.specs.Bands.{accepted}
+use Rattle.curve.specs.Bands.{accepted}
 use Rattle.rating.specs.Kinds.{bandsOf}
 use Rattle.rating.specs.Sheets.{ratedOf}
 use Rattle.answer.specs.Texts.{ratedText, noRequestText}

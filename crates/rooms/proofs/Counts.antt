@@ -13,7 +13,7 @@ use Rattle.laws.specs.Parts.{P, N}
 use Rattle.laws.proofs.Ints.{fits-made, le-yes, le-no, lt-yes, lt-no}
 use Rattle.quantity.specs.Quantities.{inRange}
 use Rattle.quantity.proofs.Rim.{range-read}
-use Rattle.rating.proofs.Weighing.{Up}
+use Rattle.curve.proofs.Counted.{Up}
 
 -- ---- a test over ℤ, from the parts
 pub le-true : (x y : ℤ) → P x + N y ≤ P y + N x → leZ x y ≡ true

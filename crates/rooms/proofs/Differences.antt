@@ -21,7 +21,7 @@ use Rattle.intake.specs.declared.singles.Time.the-variants as time
 use Rattle.intake.specs.Taken.{floatTaken, takenOf}
 use Rattle.intake.specs.Times.{timeOf}
 use Rattle.intake.proofs.Meaning.{taken-range}
-use Rattle.rating.proofs.Weighing.{Up}
+use Rattle.curve.proofs.Counted.{Up}
 use Rattle.rooms.specs.declared.raw.RawBand.{RawBand}
 use Rattle.rooms.specs.Background.{tenths, fieldMark}
 use Rattle.rooms.specs.Raw.{difference, derived, rawOf}

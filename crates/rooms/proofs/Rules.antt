@@ -15,7 +15,7 @@ use Rattle.quantity.specs.declared.refusals.Refusal.the-variants.{BandRange, Ba
 use Rattle.energy.specs.Corrections.{c, backgroundRule}
 use Rattle.intake.specs.declared.singles.Taken.{Taken}
 use Rattle.intake.specs.declared.singles.Taken.the-variants.{Value, Refused}
-use Rattle.rating.proofs.Weighing.{Up}
+use Rattle.curve.proofs.Counted.{Up}
 use Rattle.rooms.specs.Background.{above, tenths, ranged, fieldLevel, fieldMark, laboratoryLevel}
 use Rattle.rooms.proofs.Counts.{le-true, le-false, lt-true, lt-false}
 

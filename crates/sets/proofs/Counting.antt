@@ -13,8 +13,8 @@ use lib.Seq.{getD-set-other}
 use Rattle.laws.specs.Parts.{P, N}
 use Rattle.quantity.specs.Quantities.{inRange}
 use Rattle.quantity.proofs.Rim.{sum-value, difference-value}
-use Rattle.rating.specs.Levels.{levelBy, Entries}
-use Rattle.rating.proofs.Counted.{Counted, counted, up-asks, down-asks, level-parts}
+use Rattle.curve.specs.Levels.{levelBy, Entries}
+use Rattle.curve.proofs.Counted.{Counted, counted, up-asks, down-asks, level-parts}
 use Rattle.sets.specs.Highest.{highest}
 use Rattle.sets.specs.Gains.{Countable}
 

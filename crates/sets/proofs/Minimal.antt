@@ -12,7 +12,7 @@ use borrow.Author.Tests.{eq-eqb, ne-eqb}
 use lib.Dec.{T, eqb, leb, ltb, leb→le, le→leb, ltb→lt, lt→ltb, eqb→eq, T-not, not-T}
 use Rattle.laws.specs.Sums.{sumTo}
 use Rattle.laws.proofs.Sums.{sum-same, sum-mono, sum-const}
-use Rattle.rating.specs.Bands.{allTo, bit}
+use Rattle.curve.specs.Bands.{allTo, bit}
 use Rattle.sets.specs.Masks.{part, smaller}
 use Rattle.sets.specs.Gains.{gainsOf, leastOf, listedBy}
 use Rattle.sets.proofs.Tests.{holds, is-false, one-test, and-left, and-right, and-both, all-read, all-made}

@@ -10,11 +10,11 @@ use lib.IntN.{ℤ, _+ℤ_}
 use Rattle.laws.specs.Parts.{P, N}
 use Rattle.laws.specs.Sums.{sumTo}
 use Rattle.quantity.specs.declared.quantities.BandSet.{BandSet}
+use Rattle.curve.specs.Bands.{bit}
+use Rattle.curve.specs.Levels.{at, levelBy, levelAt, totalAt}
 use Rattle.rating.specs.declared.kinds.Kind.{Kind}
 use Rattle.rating.specs.Kinds.{airborne, referenceOf}
-use Rattle.rating.specs.Bands.{bit}
 use Rattle.rating.specs.Curve.{deficit, takenOff}
-use Rattle.rating.specs.Levels.{at, levelBy, levelAt, totalAt}
 use Rattle.sets.specs.Masks.{masksInOrder, filter}
 use Rattle.sets.specs.Highest.{highest}
 

@@ -8,8 +8,8 @@ ghost use mathlib.Core.Path.{_≡_};
 ghost use mathlib.Core.Bool.{true};
 ghost use Prim.Native.Nat.{ℕ, _-_, _≤_, _<_};
 ghost use Rattle.quantity.specs.Quantities.{inRange};
-ghost use Rattle.rating.specs.Bands.{accepted};
-ghost use Rattle.rating.specs.Levels.{at, levelBy, Entries};
+ghost use Rattle.curve.specs.Bands.{accepted};
+ghost use Rattle.curve.specs.Levels.{at, levelBy, Entries};
 ghost use Rattle.sets.specs.Highest.{highest};
 ghost use Rattle.sets.specs.Gains.{Countable, Gained};
 

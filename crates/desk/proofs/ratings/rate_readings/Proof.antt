@@ -1,7 +1,7 @@
 -- `desk::ratings::rate_readings` meets its contract: intake for the kind's count, then the rating. Assumes nothing.
 use borrow.Author.Needs.{needs}
+use Rattle.curve.proofs.Searched.{count-most}
 use Rattle.rating.proofs.Rated.{bands-are}
-use Rattle.rating.proofs.Searched.{count-most}
 use Rattle.rating.proofs.Facts.{count-of}
 use Rattle.desk.proofs.Joined.{readings-refused, readings-rated}
 use Rattle.desk.proofs.ratings.rate_readings.Statement.{statement}

@@ -6,7 +6,7 @@ use mathlib.Core.Logic.{⊎-elim}
 use Prim.Native.Nat.{ℕ, _+_, _-_, _≤_, _<_}
 use native.Mathlib.Omega.{arith}
 use lib.ListN.{length, getD, set}
-use Rattle.rating.specs.Levels.{at}
+use Rattle.curve.specs.Levels.{at}
 use Rattle.sets.specs.Masks.{masksInOrder, filter}
 use Rattle.sets.specs.Gains.{listedBy, byGains}
 use Rattle.sets.proofs.Enumeration.{sets-count}

@@ -6,7 +6,7 @@ use Prim.Native.Nat.{ℕ}
 use borrow.Author.Needs.{needs}
 use lib.ListN.{length}
 use Rattle.quantity.proofs.Rim.{back}
-use Rattle.rating.specs.Levels.{levelBy}
+use Rattle.curve.specs.Levels.{levelBy}
 use Rattle.lift.specs.Calls.{front}
 use Rattle.lift.proofs.Answers.{Worked, asks-count, asks-gains, worked}
 use Rattle.lift.proofs.lists.list.Statement.{statement}

@@ -6,8 +6,8 @@ use mathlib.Core.Logic.{⊎-elim}
 use Prim.Native.Nat.{ℕ, _*_, _-_, _/_, _^_, _≤_}
 use native.Mathlib.Omega.{arith}
 use borrow.Author.Needs.{needs}
-use Rattle.rating.specs.Levels.{at}
-use Rattle.rating.specs.Bands.{bit}
+use Rattle.curve.specs.Bands.{bit}
+use Rattle.curve.specs.Levels.{at}
 use Rattle.sets.specs.Gains.{gainsOf, leastOf}
 use Rattle.sets.proofs.Trial.{rest-all, rest-more, bit-yes, bit-no, gains-none, gains-with, gains-without, least-none, least-with, least-without, too-little, enough}
 use Rattle.lift.proofs.lists.listed.Statement.{statement}

@@ -4,7 +4,7 @@ use mathlib.Core.Path.{_≡_, sym, _∙_}
 use native.Mathlib.Omega.{arith}
 use borrow.Author.Tests.{not-true, not-false}
 use mathlib.Core.Bool.{true}
-use Rattle.rating.specs.Bands.{accepted}
+use Rattle.curve.specs.Bands.{accepted}
 use Rattle.means.proofs.Thirds.{octaves-count, octaves-range, octaves-made, widened-range}
 use Rattle.means.proofs.sets.octaves.Statement.{statement}
 use Rattle.means.proofs.sets.octaves.Tie as tie

@@ -4,7 +4,7 @@ use native.Mathlib.Omega.{arith}
 use Prim.Native.Nat.{_-_, _≤_}
 use lib.IntN.{_-ℤ_}
 use Rattle.quantity.specs.Quantities.{bandOf}
-use Rattle.rating.proofs.Searched.{band-in}
+use Rattle.curve.proofs.Searched.{band-in}
 use Rattle.rooms.specs.Background.{tenths}
 use Rattle.means.proofs.Filling.{Filled, filled-none, filled-more, filled-whole}
 use Rattle.products.specs.Covers.{floorAt}

@@ -8,8 +8,8 @@ use lib.ListN.{length, getD}
 use mathlib.Core.Bool.{not}
 use Prim.Native.Nat.{_%_}
 use lib.Dec.{eqb}
-use Rattle.rating.specs.Bands.{anyTo, bit}
-use Rattle.rating.proofs.Searched.{any-bits, octaves}
+use Rattle.curve.specs.Bands.{anyTo, bit}
+use Rattle.curve.proofs.Searched.{any-bits, octaves}
 use Rattle.rating.proofs.sheets.marked.Statement.{statement}
 use Rattle.rating.proofs.sheets.marked.Tie as tie
 

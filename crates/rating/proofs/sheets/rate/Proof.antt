@@ -10,12 +10,12 @@ use lib.ListN.{length, getD}
 use mathlib.Core.Path.{ap₂}
 use lib.Dec.{eqb}
 use borrow.Author.Tests.{eq-eqb, ne-eqb, not-true, not-false}
+use Rattle.curve.specs.Bands.{accepted}
+use Rattle.curve.proofs.Searched.{count-most}
 use Rattle.rating.specs.declared.kinds.Numbers.{Numbers}
 use Rattle.rating.specs.Kinds.{bandsOf}
-use Rattle.rating.specs.Bands.{accepted}
-use Rattle.rating.specs.Levels.{numbersOf}
+use Rattle.rating.specs.Numbers.{numbersOf}
 use Rattle.rating.specs.Sheets.{ratedOf, sheetOf, asked}
-use Rattle.rating.proofs.Searched.{count-most}
 use Rattle.rating.proofs.Facts.{count-of}
 use Rattle.rating.proofs.Rated.{bands-are, wrong-count, out-of-range, in-order}
 use Rattle.rating.proofs.sheets.rate.Statement.{statement}

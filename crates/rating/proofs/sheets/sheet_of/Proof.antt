@@ -8,7 +8,7 @@ use Prim.Native.Nat.{ℕ, _+_, _*_, _-_, _≤_, _<_}
 use native.Mathlib.Omega.{arith}
 use borrow.Author.Needs.{needs}
 use lib.ListN.{length, getD}
-use Rattle.rating.specs.Levels.{Count}
+use Rattle.curve.specs.Levels.{Count}
 use Rattle.rating.proofs.Sheeted.{Fetched, fetched, position-small, given, absent, sheet-made}
 use Rattle.rating.proofs.sheets.sheet_of.Statement.{statement}
 use Rattle.rating.proofs.sheets.sheet_of.Tie as tie

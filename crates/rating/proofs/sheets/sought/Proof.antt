@@ -9,8 +9,8 @@ use borrow.Author.Needs.{needs}
 use lib.ListN.{length, getD}
 use Rattle.laws.specs.Sums.{sumTo}
 use Rattle.laws.proofs.Sums.{sum-same}
-use Rattle.rating.specs.Levels.{at, levelAt}
-use Rattle.rating.proofs.Searched.{count-most, levels-small, sum-small, start-small, settled-alike}
+use Rattle.curve.specs.Levels.{at, levelAt}
+use Rattle.curve.proofs.Searched.{count-most, levels-small, sum-small, start-small, settled-alike}
 use Rattle.rating.proofs.sheets.sought.Statement.{statement}
 use Rattle.rating.proofs.sheets.sought.Tie as tie
 

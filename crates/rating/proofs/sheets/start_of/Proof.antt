@@ -6,7 +6,7 @@ use mathlib.Core.Logic.{⊎-elim}
 use Prim.Native.Nat.{ℕ, _+_, _*_, _/_, _-_, _≤_, _<_}
 use native.Mathlib.Omega.{arith}
 use lib.ListN.{length, getD}
-use Rattle.rating.proofs.Searched.{octaves}
+use Rattle.curve.proofs.Searched.{octaves}
 use Rattle.rating.proofs.sheets.start_of.Statement.{statement}
 use Rattle.rating.proofs.sheets.start_of.Tie as tie
 

@@ -5,7 +5,7 @@ use mathlib.Core.Bool.{Bool}
 use Prim.Native.Nat.{_<_}
 use native.Mathlib.Omega.{arith}
 use Rattle.quantity.proofs.Rim.{back}
-use Rattle.rating.specs.Levels.{termBy}
+use Rattle.rating.specs.Numbers.{termBy}
 use Rattle.rating.proofs.sheets.term_at.Statement.{statement}
 use Rattle.rating.proofs.sheets.term_at.Tie as tie
 

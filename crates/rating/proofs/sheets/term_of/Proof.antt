@@ -13,8 +13,9 @@ use Rattle.laws.specs.Parts.{P, N}
 use Rattle.laws.proofs.Ints.{ints}
 use Rattle.quantity.specs.Quantities.{halfUp}
 use Rattle.energy.specs.Energies.{u}
-use Rattle.rating.specs.Levels.{levelAt, leastOf, energiesOf, termBy}
-use Rattle.rating.proofs.Searched.{count-most, count-some, level-at-most, least-below}
+use Rattle.curve.specs.Levels.{levelAt, leastOf, energiesOf}
+use Rattle.curve.proofs.Searched.{count-most, count-some, level-at-most, least-below}
+use Rattle.rating.specs.Numbers.{termBy}
 use Rattle.rating.proofs.Weighing.{u-small, term-small}
 use Rattle.rating.proofs.sheets.term_of.Statement.{statement}
 use Rattle.rating.proofs.sheets.term_of.Tie as tie

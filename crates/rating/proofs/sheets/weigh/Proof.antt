@@ -8,8 +8,8 @@ use native.Mathlib.Omega.{arith}
 use borrow.Author.Needs.{needs}
 use lib.ListN.{length, getD}
 use Rattle.energy.specs.Energies.{u}
-use Rattle.rating.specs.Levels.{at, levelAt, leastOf, energiesOf}
-use Rattle.rating.proofs.Searched.{count-most, count-some, least-alike, least-below, energies-alike, energies-bounds}
+use Rattle.curve.specs.Levels.{at, levelAt, leastOf, energiesOf}
+use Rattle.curve.proofs.Searched.{count-most, count-some, least-alike, least-below, energies-alike, energies-bounds}
 use Rattle.rating.proofs.sheets.weigh.Statement.{statement}
 use Rattle.rating.proofs.sheets.weigh.Tie as tie
 

@@ -8,7 +8,7 @@ use lib.IntN.{ℤ, _+ℤ_, _-ℤ_}
 use mir.Syntax.{w32}
 use mir.Val.{toZ, ofZ}
 use Rattle.laws.specs.Parts.{P, N}
-use Rattle.rating.proofs.Weighing.{Up}
+use Rattle.curve.proofs.Counted.{Up}
 use Rattle.quantity.proofs.Rim.{back}
 use Rattle.energy.specs.Corrections.{k}
 use Rattle.rooms.specs.Background.{fieldMark}

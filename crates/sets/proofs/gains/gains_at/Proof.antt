@@ -8,9 +8,9 @@ use borrow.Author.Needs.{needs}
 use lib.ListN.{length, getD, length-set}
 use lib.IntN.{ℤ}
 use Rattle.quantity.specs.Quantities.{inRange, bandOf}
-use Rattle.rating.proofs.Walks.{put-more, total-none, total-more}
-use Rattle.rating.proofs.Searched.{band-in}
-use Rattle.rating.specs.Levels.{at, levelBy, levelAt, totalAt, Entries}
+use Rattle.curve.specs.Levels.{at, levelBy, levelAt, totalAt, Entries}
+use Rattle.curve.proofs.Walks.{put-more, total-none, total-more}
+use Rattle.curve.proofs.Searched.{band-in}
 use Rattle.sets.specs.Gains.{gainAt}
 use Rattle.sets.specs.Highest.{highest}
 use Rattle.sets.proofs.Counting.{best-in, best-most, zeros, put-rest}

@@ -1,7 +1,7 @@
 -- `rating::kinds::A1Kind::numbers` meets its contract: each list is the definition's. Assumes nothing.
 use borrow.Author.Needs.{needs}
 use mathlib.Core.Bool.{true}
-use Rattle.rating.specs.Levels.{numbersOf}
+use Rattle.rating.specs.Numbers.{numbersOf}
 use Rattle.rating.proofs.kinds.A1Kind.numbers.Statement.{statement}
 use Rattle.rating.proofs.kinds.A1Kind.numbers.Tie as tie
 

@@ -2,7 +2,7 @@
 use borrow.Author.Needs.{needs}
 use Rattle.rating.specs.declared.kinds.Kind.the-variants.{I1}
 use mathlib.Core.Bool.{false}
-use Rattle.rating.specs.Levels.{numbersOf, firstOf, secondOf, listed}
+use Rattle.rating.specs.Numbers.{numbersOf, firstOf, secondOf, listed}
 use Rattle.rating.proofs.kinds.I1Kind.numbers.Statement.{statement}
 use Rattle.rating.proofs.kinds.I1Kind.numbers.Tie as tie
 

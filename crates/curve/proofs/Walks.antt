@@ -15,8 +15,8 @@ use Rattle.laws.specs.Sums.{sumTo}
 use Rattle.laws.proofs.Sums.{sum-none, sum-more, sum-bound, sum-same}
 use Rattle.energy.specs.Energies.{F}
 use Rattle.energy.proofs.Scaled.{F-most}
-use Rattle.rating.specs.Bands.{allTo, anyTo}
-use Rattle.rating.specs.Levels.{totalAt, minTo, leastOf, energiesOf}
+use Rattle.curve.specs.Bands.{allTo, anyTo}
+use Rattle.curve.specs.Levels.{totalAt, minTo, leastOf, energiesOf}
 
 -- ---- all bands pass
 pub all-none : (ok : ℕ → Bool) → allTo ok 0 ≡ true

@@ -1,4 +1,4 @@
--- `rating::levels::all_in_range` meets its contract. The invariant: the bands passed are in range. Assumes nothing.
+-- `curve::levels::all_in_range` meets its contract. The invariant: the bands passed are in range. Assumes nothing.
 use mathlib.Core.Path.{_≡_, refl, sym, _∙_, ap}
 use mathlib.Core.Bool.{true, false}
 use mathlib.Core.Logic.{⊎-elim}
@@ -8,10 +8,10 @@ use borrow.Author.Needs.{needs}
 use borrow.Author.Tests.{not-true, not-false}
 use lib.ListN.{length, getD}
 use Rattle.quantity.specs.Quantities.{inRange, bandOf}
-use Rattle.rating.specs.Bands.{accepted, allTo}
-use Rattle.rating.proofs.Walks.{all-none, all-more, all-fails}
-use Rattle.rating.proofs.levels.all_in_range.Statement.{statement}
-use Rattle.rating.proofs.levels.all_in_range.Tie as tie
+use Rattle.curve.specs.Bands.{accepted, allTo}
+use Rattle.curve.proofs.Walks.{all-none, all-more, all-fails}
+use Rattle.curve.proofs.levels.all_in_range.Statement.{statement}
+use Rattle.curve.proofs.levels.all_in_range.Tie as tie
 
 abbrev Inv-loop : tie.InvT-loop
 Inv-loop bands set i₀ i = (i ≤ bands) × (accepted set i ≡ true)

@@ -1,4 +1,4 @@
--- `rating::levels::least` meets its contract. The invariant: the least of the bands passed. Assumes nothing.
+-- `curve::levels::least` meets its contract. The invariant: the least of the bands passed. Assumes nothing.
 use mathlib.Core.Path.{_≡_, refl, sym, _∙_, ap}
 use mathlib.Core.Bool.{true, false}
 use mathlib.Core.Logic.{⊎-elim}
@@ -6,10 +6,10 @@ use Prim.Native.Nat.{ℕ, _+_, _*_, _-_, _≤_, _<_}
 use native.Mathlib.Omega.{arith}
 use borrow.Author.Needs.{needs}
 use lib.ListN.{length, getD}
-use Rattle.rating.specs.Levels.{at, minTo, leastOf}
-use Rattle.rating.proofs.Walks.{least-first, least-kept, least-new}
-use Rattle.rating.proofs.levels.least.Statement.{statement}
-use Rattle.rating.proofs.levels.least.Tie as tie
+use Rattle.curve.specs.Levels.{at, minTo, leastOf}
+use Rattle.curve.proofs.Walks.{least-first, least-kept, least-new}
+use Rattle.curve.proofs.levels.least.Statement.{statement}
+use Rattle.curve.proofs.levels.least.Tie as tie
 
 abbrev Inv-loop : tie.InvT-loop
 Inv-loop levels bands least₀ i₀ least i = (1 ≤ i) × (i ≤ bands) × (least ≡ minTo (at levels) (i - 1))

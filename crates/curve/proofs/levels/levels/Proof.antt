@@ -1,4 +1,4 @@
--- `rating::levels::levels` meets its contract. The invariant: the levels of the bands passed. Assumes nothing.
+-- `curve::levels::levels` meets its contract. The invariant: the levels of the bands passed. Assumes nothing.
 use mathlib.Core.Path.{_≡_, refl, sym, _∙_, ap, subst}
 use mathlib.Core.Bool.{Bool, true, false}
 use mathlib.Core.Logic.{⊎-elim}
@@ -8,11 +8,11 @@ use borrow.Author.Needs.{needs}
 use lib.ListN.{length, getD}
 use lib.ListN.{length-set}
 use Rattle.quantity.specs.Quantities.{inRange, bandOf}
-use Rattle.rating.specs.Bands.{accepted}
-use Rattle.rating.specs.Levels.{levelBy}
-use Rattle.rating.proofs.Walks.{all-at, put-more}
-use Rattle.rating.proofs.levels.levels.Statement.{statement}
-use Rattle.rating.proofs.levels.levels.Tie as tie
+use Rattle.curve.specs.Bands.{accepted}
+use Rattle.curve.specs.Levels.{levelBy}
+use Rattle.curve.proofs.Walks.{all-at, put-more}
+use Rattle.curve.proofs.levels.levels.Statement.{statement}
+use Rattle.curve.proofs.levels.levels.Tie as tie
 
 abbrev Inv-loop : tie.InvT-loop
 Inv-loop bands airborne set entries out₀ i₀ out i =

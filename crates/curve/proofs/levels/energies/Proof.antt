@@ -1,4 +1,4 @@
--- `rating::levels::energies` meets its contract. The invariant: the sum of the energies of the bands passed. Assumes nothing.
+-- `curve::levels::energies` meets its contract. The invariant: the sum of the energies of the bands passed. Assumes nothing.
 use mathlib.Core.Path.{_≡_, refl, sym, _∙_, ap, subst}
 use mathlib.Core.Bool.{Bool, true, false}
 use mathlib.Core.Logic.{⊎-elim}
@@ -6,10 +6,10 @@ use Prim.Native.Nat.{ℕ, _+_, _*_, _-_, _≤_, _<_}
 use native.Mathlib.Omega.{arith}
 use borrow.Author.Needs.{needs}
 use lib.ListN.{length, getD}
-use Rattle.rating.specs.Levels.{at, energiesOf}
-use Rattle.rating.proofs.Walks.{energies-none, energies-more, energies-most}
-use Rattle.rating.proofs.levels.energies.Statement.{statement}
-use Rattle.rating.proofs.levels.energies.Tie as tie
+use Rattle.curve.specs.Levels.{at, energiesOf}
+use Rattle.curve.proofs.Walks.{energies-none, energies-more, energies-most}
+use Rattle.curve.proofs.levels.energies.Statement.{statement}
+use Rattle.curve.proofs.levels.energies.Tie as tie
 
 abbrev Inv-loop : tie.InvT-loop
 Inv-loop levels bands m powers sum₀ i₀ sum i =
@@ -21,17 +21,17 @@ abbrev μ-loop : tie.MeasureT-loop
 loop-holds : tie.Need-loop-holds Inv-loop μ-loop
 loop-holds c = (omega arith, energies-none (at (c .args .levels .now)) (c .args .m))
 
-mul-power-at : tie.Need-mul-power-at Inv-loop μ-loop
-mul-power-at c = omega arith
+mul-energy : tie.Need-mul-energy Inv-loop μ-loop
+mul-energy c = omega arith
 
-element-copy-out-power-at : tie.Need-element-copy-out-power-at Inv-loop μ-loop
-element-copy-out-power-at c = omega arith
+element-copy-out-energy : tie.Need-element-copy-out-energy Inv-loop μ-loop
+element-copy-out-energy c = omega arith
 
-sub-power-at : tie.Need-sub-power-at Inv-loop μ-loop
-sub-power-at c = c .before .before .before .pre .1 .1 (c .before .before .loop .i) (omega arith)
+sub-energy : tie.Need-sub-energy Inv-loop μ-loop
+sub-energy c = c .before .before .before .pre .1 .1 (c .before .before .loop .i) (omega arith)
 
-power-at-requires : tie.Need-power-at-requires Inv-loop μ-loop
-power-at-requires c κs = c .before .before .before .pre .0
+energy-requires : tie.Need-energy-requires Inv-loop μ-loop
+energy-requires c κs = c .before .before .before .pre .0
 
 cast-sum : tie.Need-cast-sum Inv-loop μ-loop
 cast-sum c = search needs
@@ -40,7 +40,7 @@ add-sum : tie.Need-add-sum Inv-loop μ-loop
 add-sum c =
     let b = c .before .before .before in
     let a = b .before .args in
-    omega (arith, energies-most (at (a .levels .now)) (b .loop .i) (a .m), c .power-at .ok)
+    omega (arith, energies-most (at (a .levels .now)) (b .loop .i) (a .m), c .energy .ok)
 
 add-i : tie.Need-add-i Inv-loop μ-loop
 add-i c = omega arith
@@ -52,7 +52,7 @@ loop-again : tie.Need-loop-again Inv-loop μ-loop
 loop-again c =
     let b = c .before .before .before in
     let a = b .before .args in
-    (omega arith, energies-more (at (a .levels .now)) (b .loop .i) (a .m) (b .loop .sum) (c .power-at .result) (b .loop .inv .1) (c .power-at .ensures))
+    (omega arith, energies-more (at (a .levels .now)) (b .loop .i) (a .m) (b .loop .sum) (c .energy .result) (b .loop .inv .1) (c .energy .ensures))
 
 returns : tie.Need-returns Inv-loop μ-loop
 returns c =
@@ -68,10 +68,10 @@ energies-spec =
     Inv-loop
     μ-loop
     loop-holds
-    mul-power-at
-    element-copy-out-power-at
-    sub-power-at
-    power-at-requires
+    mul-energy
+    element-copy-out-energy
+    sub-energy
+    energy-requires
     cast-sum
     add-sum
     add-i

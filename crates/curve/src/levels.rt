@@ -8,11 +8,11 @@ ghost use mathlib.Core.Bool.{true};
 ghost use Prim.Native.Nat.{ℕ, _+_, _*_, _≤_, _<_};
 ghost use lib.ListN.{length, getD};
 ghost use Rattle.laws.specs.Sums.{sumTo};
-ghost use Rattle.energy.specs.Energies.{F, Scaled};
+ghost use Rattle.energy.specs.Energies.{Scaled};
 ghost use Rattle.quantity.specs.Quantities.{inRange};
-ghost use Rattle.rating.specs.Bands.{accepted};
-ghost use Rattle.rating.specs.Levels.{levelBy, Levels, at, totalAt, leastOf, energiesOf, Settled};
-ghost use Rattle.rating.specs.Levels.{Entries};
+ghost use Rattle.curve.specs.Bands.{accepted};
+ghost use Rattle.curve.specs.Levels.{levelBy, Levels, at, totalAt, leastOf, energiesOf, Settled};
+ghost use Rattle.curve.specs.Levels.{Entries};
 
 // Where the search ended, and how many shifts it made.
 pub struct Position {
@@ -131,17 +131,6 @@ pub fn least(levels: &[u32; 16], bands: usize) -> u32
     least
 }
 
-// F(d) out of the table; above 900 it is 0.
-fn power_at(powers: &[u32; 901], d: u32) -> u32
-    requires { ⌜ Scaled (now powers) ⌝ }
-    ensures { λ r. ⌜ r ≡ F d ⌝ }
-{
-    if 900 < d {
-        return 0;
-    }
-    powers[d as usize]
-}
-
 // The sum of the energies of the levels, m the least of them.
 pub fn energies(levels: &[u32; 16], bands: usize, m: u32, powers: &[u32; 901]) -> u64
     requires { ⌜ Scaled (now powers) ⌝ }
@@ -152,7 +141,7 @@ pub fn energies(levels: &[u32; 16], bands: usize, m: u32, powers: &[u32; 901]) -
     let mut sum = 0u64;
     let mut i = 0;
     while i < bands {
-        sum += power_at(powers, levels[i] - m) as u64;
+        sum += energy::energy(powers, levels[i] - m) as u64;
         i += 1;
     }
     sum

@@ -1,4 +1,4 @@
--- `rating::levels::sum` meets its contract. The invariant: the sum of the bands passed. Assumes nothing.
+-- `curve::levels::sum` meets its contract. The invariant: the sum of the bands passed. Assumes nothing.
 use mathlib.Core.Path.{_≡_, refl, sym, _∙_, ap}
 use mathlib.Core.Bool.{true, false}
 use mathlib.Core.Logic.{⊎-elim}
@@ -8,10 +8,10 @@ use borrow.Author.Needs.{needs}
 use lib.ListN.{length, getD}
 use Rattle.laws.specs.Sums.{sumTo}
 use Rattle.laws.proofs.Sums.{sum-none, sum-more}
-use Rattle.rating.specs.Levels.{at}
-use Rattle.rating.proofs.Walks.{level-sum-most}
-use Rattle.rating.proofs.levels.sum.Statement.{statement}
-use Rattle.rating.proofs.levels.sum.Tie as tie
+use Rattle.curve.specs.Levels.{at}
+use Rattle.curve.proofs.Walks.{level-sum-most}
+use Rattle.curve.proofs.levels.sum.Statement.{statement}
+use Rattle.curve.proofs.levels.sum.Tie as tie
 
 abbrev Inv-loop : tie.InvT-loop
 Inv-loop levels bands sum₀ i₀ sum i = (i ≤ bands) × (sum ≡ sumTo (at levels) i)

@@ -1,8 +1,8 @@
--- `rating::levels::level_of` meets its contract: no value of a band is counted below 0. Assumes nothing.
+-- `curve::levels::level_of` meets its contract: no value of a band is counted below 0. Assumes nothing.
 use Rattle.quantity.proofs.Rim.{back}
-use Rattle.rating.proofs.Counted.{counted, up-asks, down-asks, up-gives, down-gives}
-use Rattle.rating.proofs.levels.level_of.Statement.{statement}
-use Rattle.rating.proofs.levels.level_of.Tie as tie
+use Rattle.curve.proofs.Counted.{counted, up-asks, down-asks, up-gives, down-gives}
+use Rattle.curve.proofs.levels.level_of.Statement.{statement}
+use Rattle.curve.proofs.levels.level_of.Tie as tie
 
 above-requires : tie.Need-above-requires
 above-requires c κs =

@@ -1,4 +1,4 @@
--- `rating::levels::total` meets its contract. The invariant: the total of the bands passed. Assumes nothing.
+-- `curve::levels::total` meets its contract. The invariant: the total of the bands passed. Assumes nothing.
 use mathlib.Core.Path.{_≡_, refl, sym, _∙_, ap}
 use mathlib.Core.Bool.{true, false}
 use mathlib.Core.Logic.{⊎-elim}
@@ -6,10 +6,10 @@ use Prim.Native.Nat.{ℕ, _+_, _*_, _-_, _≤_, _<_}
 use native.Mathlib.Omega.{arith}
 use borrow.Author.Needs.{needs}
 use lib.ListN.{length, getD}
-use Rattle.rating.specs.Levels.{at, totalAt}
-use Rattle.rating.proofs.Walks.{total-none, total-more, total-same, total-most}
-use Rattle.rating.proofs.levels.total.Statement.{statement}
-use Rattle.rating.proofs.levels.total.Tie as tie
+use Rattle.curve.specs.Levels.{at, totalAt}
+use Rattle.curve.proofs.Walks.{total-none, total-more, total-same, total-most}
+use Rattle.curve.proofs.levels.total.Statement.{statement}
+use Rattle.curve.proofs.levels.total.Tie as tie
 
 abbrev Inv-loop : tie.InvT-loop
 Inv-loop levels bands p height total₀ i₀ total i = (i ≤ bands) × (total ≡ totalAt (at levels) i p)

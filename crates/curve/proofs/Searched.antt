@@ -1,11 +1,11 @@
--- What the shared rating asks of levels, and what it gives: small sums, a least that is reached, and totals and energies that
--- are those of the set. Assumes nothing.
+-- What the shared rating asks of levels, and what it gives: small sums, a least that is reached, totals and energies that are
+-- those of the set, and a search that always ends. Assumes nothing.
 use mathlib.Core.Path.{_≡_, refl, sym, _∙_, ap, ap₂, subst}
 use mathlib.Core.Bool.{Bool, true, false, not, _||_}
 use mathlib.Core.List.{List}
 use mathlib.Core.Logic.{_⊎_, inl, inr, ⊎-elim}
 use Prim.Native.Nat.{ℕ, zero, suc, _+_, _*_, _-_, _/_, _%_, _^_, _≤_, _<_, min}
-use native.Mathlib.Nat.{le-refl, lt-irrefl}
+use native.Mathlib.Nat.{div-add-mod', mod-lt, le-refl, lt-irrefl}
 use native.Mathlib.Numerals.{one-add}
 use native.Mathlib.Decide.{decLe, decLt}
 use native.Mathlib.Omega.{arith}
@@ -15,15 +15,15 @@ use lib.Pow.{mod-pow-add, pow-pos}
 use borrow.Author.Tests.{eq-eqb, ne-eqb}
 use lib.IntN.{ℤ}
 use Rattle.laws.specs.Sums.{sumTo}
-use Rattle.laws.proofs.Sums.{sum-same, sum-term, sum-bound}
+use Rattle.laws.proofs.Sums.{sum-same, sum-mono, sum-plus, sum-const, sum-term, sum-bound}
 use Rattle.energy.specs.Energies.{F, u}
 use Rattle.energy.proofs.Scaled.{F-first}
 use Rattle.quantity.specs.Quantities.{inRange, bandOf}
 use Rattle.quantity.specs.declared.quantities.BandSet.{BandSet}
-use Rattle.rating.specs.Bands.{accepted, allTo, anyTo, bit}
-use Rattle.rating.specs.Levels.{at, levelBy, levelAt, Levels, Entries, Count, startAt, totalAt, minTo, leastOf, energiesOf, Settled, WeighedOf}
-use Rattle.rating.proofs.Counted.{counted, level-most}
-use Rattle.rating.proofs.Walks.{all-at, min-below, energies-most}
+use Rattle.curve.specs.Bands.{accepted, allTo, anyTo, bit}
+use Rattle.curve.specs.Levels.{at, levelBy, levelAt, Levels, Entries, Count, startAt, totalAt, minTo, leastOf, energiesOf, Settled}
+use Rattle.curve.proofs.Counted.{counted, level-most}
+use Rattle.curve.proofs.Walks.{all-at, total-zero, min-below, energies-most, next-over}
 
 pub count-most : {n : ℕ} → Count n → n ≤ 16
 count-most c = ⊎-elim (λ e. omega arith) (λ e. omega arith) c
@@ -109,6 +109,46 @@ energies-bounds f n c =
 pub least-below : (f : ℕ → ℕ) (n i : ℕ) → i < n → leastOf f n ≤ f i
 unfolding leastOf
 least-below f n i h = min-below f (n - 1) i (omega arith)
+
+-- ---- the search always ends
+pub record Found (f : ℕ → ℕ) (n limit start : ℕ) : Type 0 where
+  pub place : ℕ
+  pub moves : ℕ
+  pub settled : Settled f n limit start place moves
+
+-- stop here, or go on below
+choose : (f : ℕ → ℕ) (n limit start p shifts : ℕ) → p + shifts ≡ start → ((s : ℕ) → s < shifts → limit < totalAt f n (start - s))
+    → (limit < totalAt f n p → Found f n limit start) → Dec (totalAt f n p ≤ limit) → Found f n limit start
+choose f n limit start p shifts e over next (yes h) =
+    record { place = p; moves = shifts; settled = record { distance = e; fits = h; over = over } }
+choose f n limit start p shifts e over next (no h) = next (omega arith)
+
+down-from : (f : ℕ → ℕ) (n limit start p shifts : ℕ) → p + shifts ≡ start → ((s : ℕ) → s < shifts → limit < totalAt f n (start - s))
+    → Found f n limit start
+down-from f n limit start zero shifts e over =
+    choose f n limit start 0 shifts e over (λ h. absurd (omega (arith, total-zero f n))) (decLe (totalAt f n 0) limit)
+down-from f n limit start (suc p) shifts e over =
+    choose f n limit start (suc p) shifts e over
+    (λ h. down-from f n limit start p (shifts + 1) (omega arith)
+    (next-over f n limit start (suc p) shifts (totalAt f n (suc p)) e refl h over))
+    (decLe (totalAt f n (suc p)) limit)
+
+pub found : (f : ℕ → ℕ) (n limit start : ℕ) → Found f n limit start
+found f n limit start = down-from f n limit start start 0 (omega arith) (λ s h. absurd (omega arith))
+
+-- ---- past the start every position is over the limit
+pub over-past : (f : ℕ → ℕ) (n add p : ℕ) → 0 < n → startAt f n add < p → add < totalAt f n p
+unfolding totalAt
+over-past f n add p h k =
+    let m : ℕ = 10 * n in
+    let S : ℕ = sumTo f n in
+    let d : (S + add) / m * m + (S + add) % m ≡ S + add = div-add-mod' (S + add) m in
+    let r : (S + add) % m < m = mod-lt (S + add) (omega arith) in
+    let a : sumTo (λ i. 10 * p) n ≤ sumTo (λ i. (10 * p - f i) + f i) n = sum-mono (λ i. 10 * p) (λ i. (10 * p - f i) + f i) n (λ i q. omega arith) in
+    let b : sumTo (λ i. (10 * p - f i) + f i) n ≡ sumTo (λ i. 10 * p - f i) n + S = sum-plus (λ i. 10 * p - f i) f n in
+    let c : sumTo (λ i. 10 * p) n ≡ n * (10 * p) = sum-const (10 * p) n in
+    let w : m * suc ((S + add) / m) ≤ m * p = native.Mathlib.Nat.mul-le-mul-left m k in
+    omega arith
 
 -- ---- the marks: some mark below n is set where the remainder by 2 ^ n is not 0
 or-true : (b : Bool) → b || true ≡ true

@@ -1,0 +1,4 @@
+-- Laws of levels.
+pub mod Walks
+pub mod Counted
+pub mod Searched
