@@ -3,16 +3,16 @@ use mathlib.Core.List.{List}
 use Prim.Native.Nat.{ℕ}
 use Rattle.quantity.specs.declared.quantities.BandSet.{BandSet}
 use Rattle.quantity.specs.declared.quantities.Reading.{Reading}
-use Rattle.intake.specs.declared.lists.Outcome.{Outcome}
-use Rattle.intake.specs.declared.lists.Outcome.the-variants as outcome
-use Rattle.intake.specs.Lists.{listOf}
+use Rattle.measurement.specs.declared.lists.Outcome.{Outcome}
+use Rattle.measurement.specs.declared.lists.Outcome.the-variants as outcome
+use Rattle.measurement.specs.Lists.{listOf}
 use Rattle.rating.specs.declared.kinds.Kind.{Kind}
 use Rattle.rating.specs.declared.sheets.Rated.the-variants.{Refused}
 use Rattle.rating.specs.Kinds.{bandsOf}
 -- a rating from tenths: "1", then "4" for the lowest band out of range, else the sheet
 unfoldable pub use Rattle.rating.specs.Sheets.{ratedOf}
 pub use Rattle.rating.specs.declared.sheets.Rated.{Rated}
-pub use Rattle.intake.specs.declared.lists.Intake.{Intake}
+pub use Rattle.measurement.specs.declared.lists.Intake.{Intake}
 
 -- the rating of what the intake of a list gives
 abbrev pub ratedBy : Kind → BandSet → Outcome → Rated

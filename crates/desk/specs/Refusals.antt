@@ -2,6 +2,6 @@
 -- own definition.
 pub use Rattle.quantity.specs.declared.refusals.Refusal.{Refusal}
 pub use Rattle.quantity.specs.Refusals.{numberOf}
-pub use Rattle.intake.specs.declared.lists.Outcome.{Outcome}
-pub use Rattle.intake.specs.Lists.{takenAt, after, allBy, listBy}
-unfoldable pub use Rattle.intake.specs.Lists.{refusalIn, marksIn, valuesIn, allOf, listOf}
+pub use Rattle.measurement.specs.declared.lists.Outcome.{Outcome}
+pub use Rattle.measurement.specs.Lists.{takenAt, after, allBy, listBy}
+unfoldable pub use Rattle.measurement.specs.Lists.{refusalIn, marksIn, valuesIn, allOf, listOf}

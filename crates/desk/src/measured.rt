@@ -1,6 +1,6 @@
 // Corrections, raw bands and means of three.
-use intake::Intake;
 use intake::Taken;
+use measurement::Intake;
 use quantity::BandSet;
 use quantity::Reading;
 use quantity::Tenths;

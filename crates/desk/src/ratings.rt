@@ -1,7 +1,7 @@
 // Readings and ratings.
-use intake::Outcome;
 use intake::Taken;
-use intake::take_list;
+use measurement::Outcome;
+use measurement::take_list;
 use quantity::BandSet;
 use quantity::Reading;
 use rating::Kind;

@@ -1,7 +1,7 @@
 // Putting an answer's numbers into a lent array.
-use intake::Intake;
-use intake::Outcome;
 use intake::Taken;
+use measurement::Intake;
+use measurement::Outcome;
 use products::Cover;
 use products::Graded;
 use quantity::BandSet;

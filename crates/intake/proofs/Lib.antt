@@ -3,6 +3,5 @@ pub mod Nearest
 pub mod Fields
 pub mod Shifts
 pub mod Ranges
-pub mod Runs
 pub mod Meaning
 pub mod Examples

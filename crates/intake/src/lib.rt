@@ -3,15 +3,9 @@
 // An analyser's 32-bit float is taken apart into its bits and rounded exactly, a tie going to the greater. One rounding
 // serves both scales. Each call equals its definition in `specs/` for every float: NaN, infinities, subnormals and negative
 // zero too.
-mod lists;
 mod rounding;
 mod singles;
 
-pub use lists::Intake;
-pub use lists::Outcome;
-pub use lists::Readings;
-pub use lists::take_all;
-pub use lists::take_list;
 pub use singles::Taken;
 pub use singles::Time;
 pub use singles::take_float;

@@ -11,7 +11,7 @@ use lib.Dec.{ltb}
 use lib.ListN.{length, getD, set, replicate, length-set, getD-replicate, length-replicate, List·getD-eq-default}
 use lib.Seq.{getD-set-same, getD-set-other, ext-getD}
 use Rattle.quantity.specs.declared.quantities.Tenths.{Tenths}
-use Rattle.intake.specs.Lists.{listed, nought}
+use Rattle.measurement.specs.Lists.{listed, nought}
 
 length-listed : (f : ℕ → Tenths) (k i : ℕ) → length (listed f k i) ≡ k
 unfolding listed

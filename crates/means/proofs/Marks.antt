@@ -9,7 +9,7 @@ use native.Mathlib.Omega.{arith}
 use borrow.Author.Tests.{eq-eqb, ne-eqb}
 use lib.Dec.{eqb}
 use lib.Pow.{pow-add, pow-mono, shl-exact, shl-shr, mod-pow-add}
-use Rattle.intake.specs.Lists.{weightOf}
+use Rattle.measurement.specs.Lists.{weightOf}
 use Rattle.curve.specs.Bands.{bit}
 use Rattle.means.specs.Sets.{marksTo}
 

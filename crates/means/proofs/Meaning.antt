@@ -12,11 +12,11 @@ use Rattle.quantity.specs.Quantities.{inRange, bandOf}
 use Rattle.quantity.specs.declared.quantities.Tenths.{Tenths}
 use Rattle.quantity.specs.declared.quantities.BandSet.{BandSet}
 use Rattle.quantity.specs.declared.quantities.Reading.{Reading}
-use Rattle.intake.specs.declared.lists.Outcome.the-variants.{Accepted}
-use Rattle.intake.specs.declared.lists.Readings.{Readings}
-use Rattle.intake.specs.declared.lists.Intake.{Intake}
-use Rattle.intake.specs.Lists.{nought, allOf, refusalIn}
-use Rattle.intake.proofs.Runs.{outcome-is}
+use Rattle.measurement.specs.declared.lists.Outcome.the-variants.{Accepted}
+use Rattle.measurement.specs.declared.lists.Readings.{Readings}
+use Rattle.measurement.specs.declared.lists.Intake.{Intake}
+use Rattle.measurement.specs.Lists.{nought, allOf, refusalIn}
+use Rattle.measurement.proofs.Runs.{outcome-is}
 use Rattle.curve.specs.Bands.{accepted, bit}
 use Rattle.curve.proofs.Walks.{all-made}
 use Rattle.curve.proofs.Searched.{band-in}

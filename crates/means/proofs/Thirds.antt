@@ -15,12 +15,12 @@ use Rattle.quantity.specs.declared.quantities.BandSet.{BandSet}
 use Rattle.quantity.specs.declared.quantities.Reading.{Reading}
 use Rattle.quantity.specs.declared.refusals.Refusal.{Refusal}
 use Rattle.quantity.specs.declared.refusals.Refusal.the-variants.{BandCount, BandRange, SpecimenCount}
-use Rattle.intake.specs.declared.lists.Outcome.the-variants.{Accepted, Refused}
-use Rattle.intake.specs.declared.lists.Readings.{Readings}
-use Rattle.intake.specs.declared.lists.Intake.{Intake}
-use Rattle.intake.specs.Lists.{weightOf, listed, nought, allOf, refusedList}
-use Rattle.intake.proofs.Runs.{outcome-is, accepted-is}
-use Rattle.intake.proofs.Meaning.{value-range}
+use Rattle.measurement.specs.declared.lists.Outcome.the-variants.{Accepted, Refused}
+use Rattle.measurement.specs.declared.lists.Readings.{Readings}
+use Rattle.measurement.specs.declared.lists.Intake.{Intake}
+use Rattle.measurement.specs.Lists.{weightOf, listed, nought, allOf, refusedList}
+use Rattle.measurement.proofs.Runs.{outcome-is, accepted-is}
+use Rattle.measurement.proofs.Meaning.{value-range}
 use Rattle.curve.specs.Bands.{accepted}
 use Rattle.curve.proofs.Searched.{band-in}
 use Rattle.rooms.specs.Background.{tenths}

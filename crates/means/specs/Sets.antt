@@ -11,11 +11,11 @@ use Rattle.quantity.specs.declared.quantities.Tenths.{Tenths}
 use Rattle.quantity.specs.declared.quantities.BandSet.{BandSet}
 use Rattle.quantity.specs.declared.quantities.Reading.{Reading}
 use Rattle.quantity.specs.declared.refusals.Refusal.the-variants.{BandCount, BandRange, SpecimenCount}
-use Rattle.intake.specs.declared.lists.Outcome.{Outcome}
-use Rattle.intake.specs.declared.lists.Outcome.the-variants.{Accepted, Refused}
-use Rattle.intake.specs.declared.lists.Readings.{Readings}
-use Rattle.intake.specs.declared.lists.Intake.{Intake}
-use Rattle.intake.specs.Lists.{weightOf, listed, nought, allOf, refusedList}
+use Rattle.measurement.specs.declared.lists.Outcome.{Outcome}
+use Rattle.measurement.specs.declared.lists.Outcome.the-variants.{Accepted, Refused}
+use Rattle.measurement.specs.declared.lists.Readings.{Readings}
+use Rattle.measurement.specs.declared.lists.Intake.{Intake}
+use Rattle.measurement.specs.Lists.{weightOf, listed, nought, allOf, refusedList}
 use Rattle.curve.specs.Bands.{accepted, bit}
 use Rattle.rooms.specs.Background.{tenths}
 use Rattle.means.specs.Means.{meanOf₃}

@@ -24,7 +24,7 @@ use Rattle.lift.specs.Reach.{liftList}
 use Rattle.lift.specs.Calls.{inTargets}
 use Rattle.sets.specs.Gains.{gainsOf, leastOf, listedBy, byGains}
 use Rattle.lift.proofs.Quick.{listable, quickList, quick-is}
-use Rattle.intake.specs.Lists.{listed as listed-tenths}
+use Rattle.measurement.specs.Lists.{listed as listed-tenths}
 use Rattle.products.specs.Covers.{floor, derivedSet, coverOf}
 use Rattle.pencil.specs.Cases.{Case, Claim, All, table, Bands, at, lists, improves, improvements, even, dipped, twice-dipped}
 

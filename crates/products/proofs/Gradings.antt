@@ -4,9 +4,9 @@ use mathlib.Core.List.{List}
 use Prim.Native.Nat.{ℕ}
 use Rattle.quantity.specs.declared.quantities.Reading.{Reading}
 use Rattle.quantity.specs.declared.refusals.Refusal.{Refusal}
-use Rattle.intake.specs.declared.lists.Outcome.{Outcome}
-use Rattle.intake.specs.declared.lists.Outcome.the-variants as outcome
-use Rattle.intake.specs.declared.lists.Intake.{Intake}
+use Rattle.measurement.specs.declared.lists.Outcome.{Outcome}
+use Rattle.measurement.specs.declared.lists.Outcome.the-variants as outcome
+use Rattle.measurement.specs.declared.lists.Intake.{Intake}
 use Rattle.rating.specs.declared.kinds.Kind.the-variants.{A3}
 use Rattle.rating.specs.declared.sheets.Sheet.{Sheet}
 use Rattle.rating.specs.declared.sheets.Rated.{Rated}

@@ -15,7 +15,7 @@ use Rattle.quantity.specs.declared.quantities.Tenths.{Tenths}
 use Rattle.quantity.specs.declared.quantities.BandSet.{BandSet}
 use Rattle.quantity.specs.declared.refusals.Refusal.{Refusal}
 use Rattle.quantity.specs.declared.refusals.Refusal.the-variants.{BandCount, BandRange, DerivedRange}
-use Rattle.intake.specs.Lists.{listed}
+use Rattle.measurement.specs.Lists.{listed}
 use Rattle.curve.specs.Bands.{accepted, limited}
 use Rattle.curve.proofs.Counted.{Up}
 use Rattle.rating.specs.declared.kinds.Kind.the-variants.{I3}

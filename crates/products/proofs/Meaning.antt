@@ -3,10 +3,10 @@ use mathlib.Core.Path.{_≡_, refl, sym, _∙_, ap}
 use mathlib.Core.List.{List}
 use Rattle.quantity.specs.declared.quantities.BandSet.{BandSet}
 use Rattle.quantity.specs.declared.quantities.Reading.{Reading}
-use Rattle.intake.specs.declared.lists.Outcome.the-variants.{Accepted}
-use Rattle.intake.specs.declared.lists.Readings.{Readings}
-use Rattle.intake.specs.declared.lists.Intake.{Intake}
-use Rattle.intake.specs.Lists.{allOf, refusalIn}
+use Rattle.measurement.specs.declared.lists.Outcome.the-variants.{Accepted}
+use Rattle.measurement.specs.declared.lists.Readings.{Readings}
+use Rattle.measurement.specs.declared.lists.Intake.{Intake}
+use Rattle.measurement.specs.Lists.{allOf, refusalIn}
 use Rattle.rating.specs.declared.kinds.Kind.the-variants.{A3}
 use Rattle.rating.specs.Sheets.{sheetOf}
 use Rattle.rating.proofs.Rated.{in-order}

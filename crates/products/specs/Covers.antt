@@ -8,7 +8,7 @@ use lib.ListN.{getD}
 use Rattle.quantity.specs.Quantities.{bandOf}
 use Rattle.quantity.specs.declared.quantities.BandSet.{BandSet}
 use Rattle.quantity.specs.declared.refusals.Refusal.the-variants.{BandCount, BandRange, DerivedRange}
-use Rattle.intake.specs.Lists.{listed}
+use Rattle.measurement.specs.Lists.{listed}
 use Rattle.curve.specs.Bands.{accepted, limited}
 use Rattle.rating.specs.declared.kinds.Kind.the-variants.{I3}
 use Rattle.rating.specs.declared.sheets.Sheet.{Sheet}

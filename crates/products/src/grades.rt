@@ -1,6 +1,6 @@
 // The grade of a door or window.
-use intake::Outcome;
 use means::specimens;
+use measurement::Outcome;
 use quantity::Decibels;
 use quantity::Reading;
 use quantity::Refusal;

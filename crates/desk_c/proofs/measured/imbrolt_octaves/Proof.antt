@@ -1,7 +1,7 @@
 -- `desk_c::measured::imbrolt_octaves` meets its contract. Assumes nothing.
 use borrow.Author.Needs.{needs}
 use mathlib.Core.Path.{_∙_, ap}
-use Rattle.intake.specs.declared.lists.Intake.{Intake}
+use Rattle.measurement.specs.declared.lists.Intake.{Intake}
 use Rattle.means.specs.Sets.{octavesOf}
 use Rattle.door.specs.Given.{intakeAnswer}
 use Rattle.door.proofs.Gives.{given}

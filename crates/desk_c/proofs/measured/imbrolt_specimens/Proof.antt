@@ -4,7 +4,7 @@ use mathlib.Core.Path.{_∙_, ap}
 use mathlib.Core.List.{List}
 use lib.ListN.{length}
 use Rattle.quantity.specs.declared.quantities.Reading.{Reading}
-use Rattle.intake.specs.declared.lists.Intake.{Intake}
+use Rattle.measurement.specs.declared.lists.Intake.{Intake}
 use Rattle.means.specs.Sets.{specimensOf}
 use Rattle.door.specs.Given.{intakeAnswer}
 use Rattle.door.proofs.Gives.{given}

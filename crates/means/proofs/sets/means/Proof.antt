@@ -4,7 +4,7 @@ use mathlib.Core.Path.{_≡_, _∙_, ap}
 use native.Mathlib.Omega.{arith}
 use mathlib.Core.Bool.{Bool}
 use Prim.Native.Nat.{_+_, _*_, _-_}
-use Rattle.intake.specs.Lists.{weightOf}
+use Rattle.measurement.specs.Lists.{weightOf}
 use Rattle.means.specs.Sets.{placed, markAt}
 use Rattle.means.proofs.Marks.{marks-fit}
 use Rattle.means.proofs.Thirds.{Made, made-none, made-more, made-all}

@@ -1,10 +1,10 @@
--- `intake::lists::head` meets its contract. The invariant: the values so far are copied. Assumes nothing.
+-- `measurement::lists::head` meets its contract. The invariant: the values so far are copied. Assumes nothing.
 use Prim.Native.Nat.{_-_}
 use mathlib.Core.Path.{refl}
 use native.Mathlib.Omega.{arith}
-use Rattle.intake.proofs.Runs.{Copied, copied-more, copied-all}
-use Rattle.intake.proofs.lists.head.Statement.{statement}
-use Rattle.intake.proofs.lists.head.Tie as tie
+use Rattle.measurement.proofs.Runs.{Copied, copied-more, copied-all}
+use Rattle.measurement.proofs.lists.head.Statement.{statement}
+use Rattle.measurement.proofs.lists.head.Tie as tie
 
 abbrev Inv-loop : tie.InvT-loop
 Inv-loop values out₀ i₀ out i = Copied values out i

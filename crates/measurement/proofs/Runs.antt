@@ -16,13 +16,13 @@ use Rattle.quantity.specs.declared.quantities.Tenths.{Tenths}
 use Rattle.quantity.specs.declared.quantities.Reading.{Reading}
 use Rattle.quantity.specs.declared.refusals.Refusal.{Refusal}
 use Rattle.quantity.specs.declared.refusals.Refusal.the-variants.{BandCount}
 use Rattle.intake.specs.declared.singles.Taken.{Taken}
 use Rattle.intake.specs.declared.singles.Taken.the-variants as one
-use Rattle.intake.specs.declared.lists.Outcome.{Outcome}
-use Rattle.intake.specs.declared.lists.Outcome.the-variants.{Accepted, Refused}
-use Rattle.intake.specs.declared.lists.Readings.{Readings}
-use Rattle.intake.specs.declared.lists.Intake.{Intake}
-use Rattle.intake.specs.Lists.{takenAt, nought, valueOf, limitOf, after, refusalIn, weightOf, marksIn, listed, valueIn, valuesIn, refusedAll, refusedList, allBy, allOf, listBy, listOf}
+use Rattle.measurement.specs.declared.lists.Outcome.{Outcome}
+use Rattle.measurement.specs.declared.lists.Outcome.the-variants.{Accepted, Refused}
+use Rattle.measurement.specs.declared.lists.Readings.{Readings}
+use Rattle.measurement.specs.declared.lists.Intake.{Intake}
+use Rattle.measurement.specs.Lists.{takenAt, nought, valueOf, limitOf, after, refusalIn, weightOf, marksIn, listed, valueIn, valuesIn, refusedAll, refusedList, allBy, allOf, listBy, listOf}
 
 -- ---- lists by index
 

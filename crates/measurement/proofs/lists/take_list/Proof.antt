@@ -1,10 +1,10 @@
--- `intake::lists::take_list` meets its contract: the count, then what became of the readings. Assumes nothing.
+-- `measurement::lists::take_list` meets its contract: the count, then what became of the readings. Assumes nothing.
 use borrow.Author.Needs.{needs}
 use mathlib.Core.Path.{_∙_}
 use native.Mathlib.Omega.{arith}
-use Rattle.intake.proofs.Runs.{list-count, list-refused, list-marks, list-accepted}
-use Rattle.intake.proofs.lists.take_list.Statement.{statement}
-use Rattle.intake.proofs.lists.take_list.Tie as tie
+use Rattle.measurement.proofs.Runs.{list-count, list-refused, list-marks, list-accepted}
+use Rattle.measurement.proofs.lists.take_list.Statement.{statement}
+use Rattle.measurement.proofs.lists.take_list.Tie as tie
 
 refused-list-requires : tie.Need-refused-list-requires
 refused-list-requires c κs = search needs

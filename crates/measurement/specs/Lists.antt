@@ -12,13 +12,13 @@ use Rattle.quantity.specs.declared.quantities.Reading.{Reading}
 use Rattle.quantity.specs.declared.quantities.Reading.the-variants.{Level}
 use Rattle.quantity.specs.declared.refusals.Refusal.{Refusal}
 use Rattle.quantity.specs.declared.refusals.Refusal.the-variants.{BandCount}
 use Rattle.intake.specs.declared.singles.Taken.{Taken}
 use Rattle.intake.specs.declared.singles.Taken.the-variants as one
-use Rattle.intake.specs.declared.lists.Outcome.{Outcome}
-use Rattle.intake.specs.declared.lists.Outcome.the-variants.{Accepted, Refused}
-use Rattle.intake.specs.declared.lists.Readings.{Readings}
-use Rattle.intake.specs.declared.lists.Intake.{Intake}
+use Rattle.measurement.specs.declared.lists.Outcome.{Outcome}
+use Rattle.measurement.specs.declared.lists.Outcome.the-variants.{Accepted, Refused}
+use Rattle.measurement.specs.declared.lists.Readings.{Readings}
+use Rattle.measurement.specs.declared.lists.Intake.{Intake}
 use Rattle.intake.specs.Taken.{takenOf}
 
 -- what becomes of reading i, counted from 0 (past the end of a list `getD` gives its default, which no call asks for)
 abbrev pub takenAt : List Reading → ℕ → Taken

@@ -1,12 +1,12 @@
--- `intake::lists::take_all` meets its contract. The invariant: the readings so far were taken, their values and marks are
+-- `measurement::lists::take_all` meets its contract. The invariant: the readings so far were taken, their values and marks are
 -- those of the definition. The measure is how many are left. Assumes nothing.
 use Prim.Native.Nat.{_-_}
 use native.Mathlib.Omega.{arith}
 use borrow.Author.Needs.{needs}
 use mathlib.Core.Path.{sym, _∙_}
-use Rattle.intake.proofs.Runs.{Taking, taking-none, taking-marks, taking-more, weight-small, taken-all, refused-at, refused-all}
-use Rattle.intake.proofs.lists.take_all.Statement.{statement}
-use Rattle.intake.proofs.lists.take_all.Tie as tie
+use Rattle.measurement.proofs.Runs.{Taking, taking-none, taking-marks, taking-more, weight-small, taken-all, refused-at, refused-all}
+use Rattle.measurement.proofs.lists.take_all.Statement.{statement}
+use Rattle.measurement.proofs.lists.take_all.Tie as tie
 
 abbrev Inv-loop : tie.InvT-loop
 Inv-loop count readings values₀ marks₀ i₀ values marks i = Taking readings count values marks i

@@ -1,13 +1,13 @@
 // Lists of readings, from the lowest band up: the first refusal in that order is the one given.
-use crate::singles::Taken;
-use crate::singles::take_reading;
+use intake::Taken;
+use intake::take_reading;
 use quantity::BandSet;
 use quantity::Reading;
 use quantity::Refusal;
 use quantity::Tenths;
 ghost use mathlib.Core.Path.{_≡_};
 ghost use Prim.Native.Nat.{_≤_, _<_};
-ghost use Rattle.intake.specs.Lists.{allOf, listOf, weightOf, refusedAll, refusedList, headOf};
+ghost use Rattle.measurement.specs.Lists.{allOf, listOf, weightOf, refusedAll, refusedList, headOf};
 
 // Whether all was taken.
 pub enum Outcome {

@@ -1,9 +1,9 @@
--- `intake::lists::weight` meets its contract: the shift does not wrap. Assumes nothing.
+-- `measurement::lists::weight` meets its contract: the shift does not wrap. Assumes nothing.
 use borrow.Author.Needs.{needs}
 use native.Mathlib.Omega.{arith}
 use Rattle.intake.proofs.Shifts.{one-shifted}
-use Rattle.intake.proofs.lists.weight.Statement.{statement}
-use Rattle.intake.proofs.lists.weight.Tie as tie
+use Rattle.measurement.proofs.lists.weight.Statement.{statement}
+use Rattle.measurement.proofs.lists.weight.Tie as tie
 
 shl-result : tie.Need-shl-result
 shl-result c = search needs

@@ -1,0 +1,3 @@
+-- Laws of lists of readings.
+pub mod Runs
+pub mod Meaning
