@@ -1,6 +1,6 @@
 // Sums of energies by tables of whole numbers: the scaled powers F, the steps of the thresholds H and G, the background
-// correction c and the reverberation steps k. Each function is proved equal to its rule for every argument in range; a
-// table is seen by the one function that reads it.
+// correction c and the reverberation steps k. Each function is proved equal to its rule for every argument in range. The
+// tables of a rating are handed out by one function each and lent on; the others are seen by the one function that reads them.
 mod corrections;
 mod energies;
 mod means;
