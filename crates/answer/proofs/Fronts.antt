@@ -1,10 +1,10 @@
 -- Texts at the front of a buffer: one byte more, and what was lent the tail to write there. Assumes nothing.
-use mathlib.Core.Path.{_≡_, refl, sym, _∙_, ap, subst}
+use mathlib.Core.Path.{_≡_, refl, sym, _∙_, ap}
 use mathlib.Core.List.{List, [], _∷_, _++_, append-assoc, append-nil}
-use Prim.Native.Nat.{ℕ, zero, suc, _+_, _-_, _≤_, _<_}
+use Prim.Native.Nat.{ℕ, suc, _+_, _-_, _≤_, _<_}
 use native.Mathlib.Omega.{arith}
-use lib.ListN.{length, take, drop, set, length-append, length-drop, length-set}
-use lib.Seq.{drop-cons, set-at, take-at, drop-at, drop-drop, take-all, drop-length}
+use lib.ListN.{length, take, drop, set, length-append, length-drop}
+use lib.Seq.{drop-cons, set-at, take-at, drop-at, drop-drop, take-all}
 use borrow.Rule.Slice.PartMut.{putMid, midOf, postOf}
 use Rattle.answer.specs.Texts.{front}
 

@@ -3,25 +3,23 @@
 use mathlib.Core.Path.{_≡_, refl, sym, _∙_, ap, ap₂, subst}
 use mathlib.Core.Bool.{Bool, true, false, not, _||_}
 use mathlib.Core.List.{List}
-use mathlib.Core.Logic.{_⊎_, inl, inr, ⊎-elim}
+use mathlib.Core.Logic.{_⊎_, ⊎-elim}
 use Prim.Native.Nat.{ℕ, zero, suc, _+_, _*_, _-_, _/_, _%_, _^_, _≤_, _<_, min}
 use native.Mathlib.Nat.{div-add-mod', mod-lt, le-refl, lt-irrefl}
 use native.Mathlib.Numerals.{one-add}
-use native.Mathlib.Decide.{decLe, decLt}
+use native.Mathlib.Decide.{decLe}
 use native.Mathlib.Omega.{arith}
 use lib.Dec.{T, eqb}
-use lib.ListN.{length, getD}
 use lib.Pow.{mod-pow-add, pow-pos}
 use borrow.Author.Tests.{eq-eqb, ne-eqb}
-use lib.IntN.{ℤ}
 use Rattle.laws.specs.Sums.{sumTo}
 use Rattle.laws.proofs.Sums.{sum-same, sum-mono, sum-plus, sum-const, sum-term, sum-bound}
 use Rattle.energy.specs.Energies.{F, u}
 use Rattle.energy.proofs.Scaled.{F-first}
 use Rattle.quantity.specs.Quantities.{inRange, bandOf}
 use Rattle.quantity.specs.declared.quantities.BandSet.{BandSet}
-use Rattle.curve.specs.Bands.{accepted, allTo, anyTo, bit}
-use Rattle.curve.specs.Levels.{at, levelBy, levelAt, Levels, Entries, Count, startAt, totalAt, minTo, leastOf, energiesOf, Settled}
+use Rattle.curve.specs.Bands.{accepted, anyTo, bit}
+use Rattle.curve.specs.Levels.{at, levelAt, Levels, Entries, Count, startAt, totalAt, minTo, leastOf, energiesOf, Settled}
 use Rattle.curve.proofs.Counted.{counted, level-most}
 use Rattle.curve.proofs.Walks.{all-at, total-zero, min-below, energies-most, next-over}
 

@@ -1,7 +1,7 @@
 -- What each walk over the bands adds: tests over all bands, sums, the least. One law for the start, one for a turn and one for
 -- the way out of each loop. Assumes nothing.
 use mathlib.Core.Path.{_≡_, refl, sym, _∙_, ap, ap₂, subst}
-use mathlib.Core.Bool.{Bool, true, false, _&&_, _||_}
+use mathlib.Core.Bool.{Bool, true, false, _&&_}
 use mathlib.Core.List.{List}
 use Prim.Native.Nat.{ℕ, zero, suc, _+_, _*_, _-_, _≤_, _<_, min}
 use native.Mathlib.Nat.{le-refl, lt-irrefl}
@@ -12,11 +12,11 @@ use lib.Dec.{T}
 use lib.ListN.{length, getD, set}
 use lib.Seq.{getD-set-same, getD-set-other}
 use Rattle.laws.specs.Sums.{sumTo}
-use Rattle.laws.proofs.Sums.{sum-none, sum-more, sum-bound, sum-same}
+use Rattle.laws.proofs.Sums.{sum-none, sum-more, sum-bound}
 use Rattle.energy.specs.Energies.{F}
 use Rattle.energy.proofs.Scaled.{F-most}
-use Rattle.curve.specs.Bands.{allTo, anyTo}
-use Rattle.curve.specs.Levels.{totalAt, minTo, leastOf, energiesOf}
+use Rattle.curve.specs.Bands.{allTo}
+use Rattle.curve.specs.Levels.{totalAt, minTo, energiesOf}
 
 -- ---- all bands pass
 pub all-none : (ok : ℕ → Bool) → allTo ok 0 ≡ true

@@ -1,8 +1,8 @@
 -- Monotone powers, and tests read as orders. The large powers stay behind these laws. Assumes nothing.
-use Prim.Native.Nat.{ℕ, zero, suc, _+_, _*_, _^_, _≤_, _<_}
-use native.Mathlib.Nat.{pow-le-pow-left, pow-le-pow-right, mul-le-mul-left, mul-le-mul-right, le-trans, one-le-pow, mul-one}
+use Prim.Native.Nat.{ℕ, _*_, _^_, _≤_}
+use native.Mathlib.Nat.{pow-le-pow-right, mul-le-mul-left, le-trans, one-le-pow, mul-one}
 use native.Mathlib.Omega.{arith}
-use mathlib.Core.Path.{_≡_, subst}
+use mathlib.Core.Path.{subst}
 use lib.Dec.{T, leb, leb→le, le→leb}
 
 -- a power of ten grows with its exponent

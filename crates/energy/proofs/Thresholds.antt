@@ -10,7 +10,7 @@ use native.Mathlib.Omega.{arith}
 use lib.Dec.{T, leb, ltb, leb→le, le→leb, ltb→lt, lit<, lit≤}
 use lib.ListN.{length, getD}
 use Rattle.laws.specs.Extremes.{Greatest, Least, Number}
-use Rattle.laws.proofs.Extremes.{Down, found, found-is, number-of}
+use Rattle.laws.proofs.Extremes.{Down, found, number-of}
 use Rattle.laws.proofs.Table.{both, both-left, both-right, every, at}
 use Rattle.energy.specs.Energies.{u, levelRule, AtLeast, Summed, Thresholds, Starts}
 use Rattle.energy.specs.Steps.{Reached}

@@ -2,11 +2,11 @@
 -- greatest is also how many pass. Assumes nothing.
 use mathlib.Core.Path.{_≡_, refl, sym, _∙_, ap, subst}
 use mathlib.Core.Bool.{Bool, true, false, not, cond}
-use Prim.Native.Nat.{ℕ, zero, suc, _+_, _*_, _-_, _^_, _≤_, _<_}
+use Prim.Native.Nat.{ℕ, zero, suc, _+_, _-_, _^_, _≤_, _<_}
 use native.Mathlib.Nat.{le-antisymm, lt-of-not-le, not-le-of-lt, le-refl, add-zero, add-suc}
 use native.Mathlib.Omega.{arith}
 use native.Mathlib.Decide.{decLe}
-use lib.Dec.{T, leb, leb→le, le→leb, T-not, not-T}
+use lib.Dec.{T}
 use Rattle.laws.specs.Extremes.{Greatest, Least, Number, one-if, countTo, settle, greatest}
 
 -- smaller numbers pass too

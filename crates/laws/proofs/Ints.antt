@@ -2,14 +2,14 @@
 -- with the set `ints` and one law for each compound term, omega proves facts over ℤ. Assumes nothing.
 use mathlib.Core.Path.{_≡_, refl, sym, _∙_, ap, subst}
 use mathlib.Core.Bool.{Bool, true, false, not, cond}
-use Prim.Native.Nat.{ℕ, zero, suc, _+_, _*_, _-_, _^_, _≤_, _<_}
+use Prim.Native.Nat.{ℕ, zero, suc, _+_, _*_, _-_, _≤_, _<_}
 use native.Mathlib.Omega.{arith}
 use borrow.Author.Tests.{ltb-false, leb-false}
-use lib.Dec.{T, leb, ltb, ltb→lt, nltb→le, leb→le, le→leb, lt→ltb, nleb→lt}
+use lib.Dec.{T, leb, ltb, ltb→lt, nltb→le, leb→le, le→leb, lt→ltb}
 use lib.IntN.{ℤ, pos, negsuc, negℤ, _+ℤ_, _-ℤ_, _*ℤ_, subℕ}
 use lib.Signed.{_≤ℤ_, _<ℤ_, leZ, ltZ, mag}
 use mir.Val.{SFits}
-use mir.Syntax.{Width, w32}
+use mir.Syntax.{w32}
 use Rattle.laws.specs.Parts.{P, N}
 
 -- of a choice by a test, what each case shows

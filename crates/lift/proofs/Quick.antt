@@ -1,26 +1,23 @@
 -- The lift list of given bands, computed: by gains, which is proved to be the list by ratings. Assumes nothing.
 use mathlib.Core.Path.{_≡_, refl, sym, _∙_, ap, subst, fun-ext}
 use mathlib.Core.Bool.{Bool, true, _&&_}
-use mathlib.Core.List.{List, [], _∷_, map}
+use mathlib.Core.List.{List, map}
 use Prim.Native.Nat.{ℕ, zero, suc, _-_, _≤_}
 use native.Mathlib.Omega.{arith}
 use lib.Dec.{T}
 use lib.IntN.{ℤ, pos}
 use lib.ListN.{length, getD, List·getD-map}
-use Rattle.laws.specs.Sums.{sumTo, sumℤ}
-use Rattle.quantity.specs.Quantities.{inRange, bandOf}
+use Rattle.quantity.specs.Quantities.{bandOf}
 use Rattle.quantity.specs.declared.quantities.Tenths.{Tenths}
 use Rattle.quantity.specs.declared.quantities.BandSet.{BandSet}
-use Rattle.curve.specs.Bands.{accepted, allTo}
+use Rattle.curve.specs.Bands.{accepted}
 use Rattle.curve.specs.Levels.{levelBy, levelAt, totalAt}
 use Rattle.rating.specs.declared.kinds.Kind.{Kind}
-use Rattle.rating.specs.declared.kinds.Kind.the-variants.{A3}
-use Rattle.rating.specs.Kinds.{airborne, bandsOf, limitOf, referenceOf, referencesOf}
-use Rattle.rating.specs.Curve.{deficit, total, within, startOf, shifted, firstFrom, shiftsOf, positionOf, ratingOf}
+use Rattle.rating.specs.Kinds.{airborne, bandsOf, limitOf}
+use Rattle.rating.specs.Curve.{total, ratingOf}
 use Rattle.rating.specs.Numbers.{listed, entriesOf, ratingAt}
 use Rattle.rating.proofs.Bridge.{listed-is}
-use Rattle.sets.specs.Masks.{choose, masksInOrder, filter}
-use Rattle.sets.specs.Gains.{gainsOf, leastOf, listedBy, byGains, gainAt, Gained}
+use Rattle.sets.specs.Gains.{byGains, gainAt, Gained}
 use Rattle.sets.proofs.Tests.{is-true, and-left, and-right}
 use Rattle.lift.specs.Reach.{betterBy, liftList}
 use Rattle.lift.specs.Calls.{inTargets}

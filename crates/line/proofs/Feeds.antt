@@ -1,18 +1,18 @@
 -- Line feeds: a request's text and an answer's have one, at the end; and where the first line of an input ends.
 -- Assumes nothing.
-use mathlib.Core.Path.{_≡_, refl, sym, _∙_, ap, subst}
+use mathlib.Core.Path.{_≡_, refl, sym, _∙_, ap}
 use mathlib.Core.Bool.{Bool, true, false, cond}
-use mathlib.Core.List.{List, [], _∷_, _++_, map, append-assoc, append-nil}
-use Prim.Native.Nat.{ℕ, zero, suc, _+_, _-_, _*_, _/_, _%_, _≤_, _<_}
+use mathlib.Core.List.{List, [], _∷_, _++_, map, append-nil}
+use Prim.Native.Nat.{ℕ, zero, suc, _+_, _-_, _/_, _%_, _<_}
 use native.Mathlib.Omega.{arith}
-use borrow.Author.Tests.{eq-eqb, ne-eqb, eqb-true, eqb-false, ltb-true, ltb-false}
+use borrow.Author.Tests.{ne-eqb, eqb-true}
 use lib.Dec.{ltb, eqb}
 use lib.IntN.{ℤ, pos, negsuc}
 use lib.ListN.{length, take, drop, length-append}
 use Rattle.rating.specs.declared.kinds.Kind.{Kind}
 use Rattle.rating.specs.declared.kinds.Kind.the-variants.{A3, A1, I3, I1}
 use Rattle.answer.specs.Texts.{others, lineText, decimal, decimalBy, kindText}
-use Rattle.request.specs.Texts.{figureText, levelText, markText, bandText, KeyBytes, Band, requestText}
+use Rattle.request.specs.Texts.{figureText, levelText, bandText, KeyBytes, Band, requestText}
 use Rattle.request.specs.Texts.Band.{missing, level}
 use Rattle.line.specs.Answers.{joined, linesOf}
 use Rattle.line.specs.Blocks.{oneMore, feedIn, movedBy, afterFeed}

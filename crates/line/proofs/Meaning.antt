@@ -2,30 +2,29 @@
 -- of its lines, one for each, in order. A turn is right whatever follows the part; so is a block; so is a run. Assumes nothing.
 use mathlib.Core.Path.{_≡_, refl, sym, _∙_, ap, subst}
 use mathlib.Core.Bool.{Bool, true, false, cond}
-use mathlib.Core.List.{List, [], _∷_, _++_, map, append-assoc, append-nil}
+use mathlib.Core.List.{List, [], _∷_, _++_, append-assoc, append-nil}
 use Prim.Native.Nat.{ℕ, zero, suc, _+_, _-_, _≤_, _<_}
 use native.Mathlib.Omega.{arith}
-use borrow.Author.Tests.{le-leb, lt-leb, leb-true, leb-false, lt-ltb, le-ltb, ltb-true, ltb-false, eq-eqb, ne-eqb, eqb-true, eqb-false}
+use borrow.Author.Tests.{le-leb, leb-true, leb-false, ltb-true, ltb-false, eqb-true, eqb-false}
 use lib.Dec.{leb, ltb, eqb}
-use lib.ListN.{length, take, drop, length-drop, length-append, length-take, take-append-drop, drop-of-length-le}
-use lib.Seq.{drop-drop, drop-append-le, length-take-le, drop-length, take-all}
+use lib.ListN.{length, take, drop, length-drop, length-take, take-append-drop}
+use lib.Seq.{drop-drop, length-take-le, drop-length}
 use Rattle.rating.specs.declared.kinds.Kind.{Kind}
 use Rattle.rating.specs.declared.sheets.Rated.{Rated}
 use Rattle.rating.specs.declared.sheets.Rated.the-variants.{Rating, Refused}
-use Rattle.rating.specs.declared.sheets.Sheet.{Sheet}
 use Rattle.rating.specs.declared.sheets.Term.{Term}
 use Rattle.rating.specs.declared.sheets.Term.the-variants.{Given, Absent}
 use Rattle.quantity.specs.Refusals.{numberOf}
 use Rattle.reply.specs.declared.requests.Reply.{Reply}
 use Rattle.line.specs.declared.blocks.Piece.{Piece}
 use Rattle.answer.specs.Texts.{others, lineText, decimal, numberText, termText, setText, kindText, fieldsOf, ratedText, noRequestText}
-use Rattle.request.specs.Texts.{Band, KeyOk, BandsOk, requestText}
+use Rattle.request.specs.Texts.{Band, requestText}
 use Rattle.request.specs.Reading.{Asked, requestAt, Request, requestOf}
 use Rattle.request.specs.Reading.Asked.{asked}
 use Rattle.request.specs.Reading.Request.{request}
 use Rattle.reply.specs.Answers.{judged, answerTo, answerOf, noReply, replyTo, replyAt, replyText}
 use Rattle.line.specs.Answers.{linesOf, answersTo, answersOf}
-use Rattle.line.specs.Blocks.{feedIn, movedBy, feedAfter, restPiece, feedPiece, pieceAt, Step, skipBy, answerBy, stepAt, Block, blockFrom, blockOf, afterFeed, answersFrom, Run}
+use Rattle.line.specs.Blocks.{feedIn, movedBy, feedAfter, feedPiece, pieceAt, Step, skipBy, stepAt, Block, blockFrom, blockOf, afterFeed, answersFrom, Run}
 use Rattle.line.specs.Blocks.Run.{done, part, end}
 use Rattle.request.proofs.Stands.{Stands, taken, fits}
 use Rattle.request.proofs.Wholes.{RequestAt, RequestGood, request-ok, request-here, part-stands, text-length, IsText, text-of, means}

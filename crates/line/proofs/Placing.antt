@@ -1,22 +1,20 @@
 -- An answer at an offset of the output: what room there is, and the tail that comes home. And the answer of a whole line, by
 -- what was read from its start. Assumes nothing.
-use mathlib.Core.Path.{_≡_, refl, sym, _∙_, ap, subst}
+use mathlib.Core.Path.{_≡_, refl, sym, _∙_, ap}
 use mathlib.Core.Bool.{Bool, true, false, cond, _&&_}
-use mathlib.Core.List.{List, [], _∷_, _++_, append-nil}
-use Prim.Native.Nat.{ℕ, zero, suc, _+_, _-_, _≤_, _<_}
+use mathlib.Core.List.{List, _++_, append-nil}
+use Prim.Native.Nat.{ℕ, _+_, _-_, _≤_, _<_}
 use native.Mathlib.Omega.{arith}
-use borrow.Author.Tests.{le-leb, lt-leb, leb-true, leb-false, eq-eqb, ne-eqb, eqb-true, eqb-false}
-use borrow.Rule.Slice.PartMut.{putMid, midOf, postOf, same-len-mid}
+use borrow.Author.Tests.{le-leb, lt-leb, leb-true, leb-false, eq-eqb, ne-eqb}
+use borrow.Rule.Slice.PartMut.{putMid, midOf}
 use lib.Dec.{leb, eqb}
 use lib.ListN.{length, take, drop, length-drop, length-take, length-append, drop-of-length-le}
 use lib.Seq.{take-all, drop-drop}
 use Rattle.quantity.specs.declared.refusals.Refusal.the-variants.{NoRoom}
 use Rattle.rating.specs.declared.kinds.Kind.{Kind}
-use Rattle.rating.specs.declared.sheets.Rated.{Rated}
 use Rattle.reply.specs.declared.requests.Reply.{Reply}
-use Rattle.line.specs.declared.lines.Wrote.{Wrote}
 use Rattle.line.specs.declared.lines.Wrote.the-variants as wrote
-use Rattle.request.specs.Texts.{Band, requestText}
+use Rattle.request.specs.Texts.{Band}
 use Rattle.answer.specs.Texts.{ratedText, noRequestText, front}
 use Rattle.request.specs.Reading.{Asked, requestAt, Request, whole, requestOf}
 use Rattle.request.specs.Reading.Asked.{asked}
@@ -24,7 +22,7 @@ use Rattle.request.specs.Reading.Request.{request}
 use Rattle.reply.specs.Answers.{judged, answerTo, answerOf, noReply, replyTo, replyAt, replyText, Keyed}
 use Rattle.line.specs.Answers.{fitsAt, placed, wroteOf}
 use Rattle.request.proofs.Wholes.{RequestAt, RequestGood, request-ok, text-length}
-use Rattle.reply.proofs.Replies.{reply-none, reply-some}
+use Rattle.reply.proofs.Replies.{reply-none}
 
 module _ (out : List ℕ) (at : ℕ) (text : List ℕ) where
   pub no-room : length out < at + length text → (wrote.Refused NoRoom ≡ wroteOf out at text) × (out ≡ placed out at text)

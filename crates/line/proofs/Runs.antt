@@ -1,19 +1,18 @@
 -- The loop of the block call: what was answered so far, and what the rest of the part gives, are the block. Assumes nothing.
 use mathlib.Core.Path.{_≡_, refl, sym, _∙_, ap, subst}
 use mathlib.Core.Bool.{Bool, true, false, cond}
-use mathlib.Core.List.{List, [], _∷_, _++_, append-assoc}
+use mathlib.Core.List.{List, [], _++_, append-assoc}
 use Prim.Native.Nat.{ℕ, zero, suc, _+_, _-_, _≤_, _<_}
 use native.Mathlib.Omega.{arith}
-use borrow.Author.Tests.{le-leb, lt-leb, leb-true, leb-false, lt-ltb, le-ltb, eq-eqb, ne-eqb, eqb-true, eqb-false}
+use borrow.Author.Tests.{lt-ltb, le-ltb, eq-eqb, ne-eqb, eqb-false}
 use lib.Dec.{leb, ltb, eqb}
-use lib.ListN.{length, take, drop, length-drop, length-append}
+use lib.ListN.{length, take, drop, length-append}
 use lib.Seq.{take-at, drop-append-add, drop-drop}
 use Rattle.line.specs.declared.blocks.Piece.{Piece}
 use Rattle.line.specs.declared.blocks.Turn.{Turn}
-use Rattle.line.specs.declared.blocks.Progress.{Progress}
 use Rattle.answer.specs.Texts.{front}
 use Rattle.reply.specs.Answers.{replyText}
-use Rattle.line.specs.Blocks.{feedAfter, pieceAt, Step, skipBy, answerBy, stepAt, Block, blockFrom, blockOf, Turned, Answered}
+use Rattle.line.specs.Blocks.{feedAfter, pieceAt, Step, skipBy, stepAt, Block, blockFrom, blockOf, Turned, Answered}
 use Rattle.answer.proofs.Fronts.{front-length}
 use Rattle.line.proofs.Turns.{feed-bounds, PieceGood, piece-good, none-placed}
 

@@ -1,13 +1,13 @@
 -- The block call, turn by turn: the line feed that is looked for, the next piece, and what a turn leaves. Assumes nothing.
 use mathlib.Core.Path.{_≡_, refl, sym, _∙_, ap, subst}
-use mathlib.Core.Bool.{Bool, true, false, cond, _&&_}
-use mathlib.Core.List.{List, [], _∷_, _++_, append-assoc, append-nil}
+use mathlib.Core.Bool.{Bool, true, false, cond}
+use mathlib.Core.List.{List, [], _∷_, _++_}
 use Prim.Native.Nat.{ℕ, zero, suc, _+_, _-_, _≤_, _<_}
 use native.Mathlib.Omega.{arith}
-use borrow.Author.Tests.{le-leb, lt-leb, leb-true, leb-false, lt-ltb, le-ltb, eq-eqb, ne-eqb, eqb-true, eqb-false}
-use lib.Dec.{leb, ltb, eqb}
-use lib.ListN.{length, getD, take, drop, length-drop, length-append, drop-of-length-le, take-append-drop}
-use lib.Seq.{drop-cons, take-at, drop-at, drop-drop}
+use borrow.Author.Tests.{le-leb, lt-leb, leb-true, leb-false, eq-eqb, ne-eqb, eqb-false}
+use lib.Dec.{leb, eqb}
+use lib.ListN.{length, take, drop, length-drop, drop-of-length-le, take-append-drop}
+use lib.Seq.{drop-cons}
 use Rattle.quantity.specs.declared.refusals.Refusal.{Refusal}
 use Rattle.quantity.specs.declared.refusals.Refusal.the-variants.{NoRoom}
 use Rattle.reply.specs.declared.requests.Reply.{Reply}
@@ -17,12 +17,11 @@ use Rattle.line.specs.declared.blocks.Piece.{Piece}
 use Rattle.line.specs.declared.blocks.Turn.{Turn}
 use Rattle.request.specs.Reading.{byteAt, Asked, requestAt}
 use Rattle.request.specs.Reading.Asked.{asked}
-use Rattle.answer.specs.Texts.{front}
 use Rattle.reply.specs.Answers.{judged, noReply, replyTo, replyAt, replyText, Keyed}
 use Rattle.line.specs.Answers.{fitsAt, placed, wroteOf}
-use Rattle.line.specs.Blocks.{oneMore, feedIn, movedBy, feedAfter, restPiece, feedPiece, pieceAt, Step, skipBy, answerBy, stepAt, Block, blockFrom, blockOf, Turned, Answered}
+use Rattle.line.specs.Blocks.{oneMore, feedIn, movedBy, feedAfter, restPiece, feedPiece, pieceAt, Step, skipBy, answerBy, stepAt, Turned}
 use Rattle.request.proofs.Stands.{fits}
-use Rattle.request.proofs.Wholes.{RequestAt, RequestGood, request-ok, text-length}
+use Rattle.request.proofs.Wholes.{RequestGood, request-ok, text-length}
 use Rattle.reply.proofs.Replies.{reply-keyed}
 use Rattle.line.proofs.Placing.{none-keyed}
 

@@ -26,7 +26,7 @@ use Rattle.sets.specs.Gains.{gainsOf, leastOf, listedBy, byGains}
 use Rattle.lift.proofs.Quick.{listable, quickList, quick-is}
 use Rattle.measurement.specs.Lists.{listed as listed-tenths}
 use Rattle.products.specs.Covers.{floor, derivedSet, coverOf}
-use Rattle.pencil.specs.Cases.{Case, Claim, All, table, Bands, at, lists, improves, improvements, even, dipped, twice-dipped}
+use Rattle.pencil.specs.Cases.{All, table, Bands, at, even, dipped, twice-dipped}
 
 -- a list's row, by gains
 by-gains : (kind : Kind) (x : Bands) (t : ℤ) (ms : List ℕ) → T (listable kind x t) → quickList kind x t ≡ ms → liftList kind (at x) t ≡ ms

@@ -1,19 +1,19 @@
 -- Between signed numbers and naturals: what a sum or a difference that is not below 0 is as a natural. Assumes nothing.
-use mathlib.Core.Path.{_≡_, refl, sym, _∙_, ap, subst}
+use mathlib.Core.Path.{_≡_, refl, ap}
 use mathlib.Core.Bool.{Bool, true, false, _&&_}
-use Prim.Native.Nat.{ℕ, zero, suc, _+_, _*_, _/_, _≤_, _<_}
+use Prim.Native.Nat.{ℕ, suc, _+_, _*_, _/_, _≤_, _<_}
 use native.Mathlib.Omega.{arith}
 use borrow.Author.Tests.{le-leb, lt-leb, leb-true}
 use lib.Dec.{T, leb}
 use lib.IntN.{ℤ, pos, negsuc, natAbs, _+ℤ_, _-ℤ_}
-use lib.Signed.{nonNeg, leZ, shrZ, mag}
+use lib.Signed.{nonNeg, shrZ, mag}
 use mir.Syntax.{w32}
 use mir.Val.{Fits, SFits, toZ, ofZ}
 use mir.Facts.{toZ-ofZ, toZ-pos}
 use Rattle.laws.specs.Parts.{P, N}
-use Rattle.laws.proofs.Ints.{ints, plus, minus, apart, fits-made, fits-read}
+use Rattle.laws.proofs.Ints.{plus, minus, apart, fits-made}
 use Rattle.laws.proofs.Floor.{IsFloor, floor-is, floor-unique}
-use Rattle.quantity.specs.Quantities.{inRange, halfUp, InRange}
+use Rattle.quantity.specs.Quantities.{inRange, halfUp}
 
 nonneg : (z : ℤ) → N z ≡ 0 → T (nonNeg z)
 nonneg (pos n) e = tt

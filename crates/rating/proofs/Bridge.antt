@@ -1,24 +1,21 @@
 -- From the naturals of the code to the definitions over ℤ, for both signs at once: position p is p - 24 dB for airborne and
 -- 168 - p dB for impact, a level is a value counted from its entry, and so each deficit is 10 p less the level.
 -- Assumes nothing.
-use mathlib.Core.Path.{_≡_, refl, sym, _∙_, ap, ap₂, subst}
+use mathlib.Core.Path.{_≡_, sym, _∙_, ap}
 use mathlib.Core.Bool.{Bool, true, false, cond}
-use mathlib.Core.List.{List, [], _∷_}
 use Prim.Native.Nat.{ℕ, zero, suc, _+_, _*_, _-_, _/_, _%_, _≤_, _<_}
 use native.Mathlib.Nat.{div-add-mod', mod-lt, add-zero, add-suc, suc-add, not-suc-le-zero}
-use native.Mathlib.Decide.{decLe, decLt}
 use native.Mathlib.Omega.{arith}
-use lib.Dec.{T, leb, ltb, leb→le, le→leb}
-use borrow.Author.Tests.{le-leb, lt-leb}
-use lib.IntN.{ℤ, pos, negsuc, negℤ, _+ℤ_, _-ℤ_, _*ℤ_}
-use lib.ListN.{length, getD}
-use lib.Signed.{shrZ, _≤ℤ_}
+use lib.Dec.{T}
+use lib.IntN.{ℤ, pos, negℤ, _+ℤ_, _-ℤ_, _*ℤ_}
+use lib.ListN.{getD}
+use lib.Signed.{shrZ}
 use Rattle.laws.specs.Parts.{P, N}
-use Rattle.laws.proofs.Ints.{ints, plus, minus, opposite, apart, times-P, times-N, le-made, eq-made}
-use Rattle.laws.proofs.Floor.{IsFloor, floor-unique}
+use Rattle.laws.proofs.Ints.{plus, minus, opposite, apart, times-P, times-N, eq-made}
+use Rattle.laws.proofs.Floor.{floor-unique}
 use Rattle.curve.specs.Levels.{bottom}
 use Rattle.curve.proofs.Counted.{PartsOf}
-use Rattle.rating.specs.Curve.{deficitBy, startBy, shiftedBy, stricterBy, floorOf, ceilingOf, firstFrom}
+use Rattle.rating.specs.Curve.{deficitBy, startBy, shiftedBy, firstFrom}
 use Rattle.rating.specs.Numbers.{entryBy, listed}
 
 -- position p in decibels

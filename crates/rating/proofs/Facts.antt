@@ -1,13 +1,13 @@
 -- What is computed of each kind: its entries are none below and none too high, it counts thirds or octaves, and what it adds
 -- before the division tunes its start. Assumes nothing.
-use mathlib.Core.Path.{_≡_, refl, sym, _∙_, ap, subst}
+use mathlib.Core.Path.{_≡_, refl}
 use mathlib.Core.Bool.{Bool, true, false}
 use mathlib.Core.List.{List}
-use mathlib.Core.Logic.{_⊎_, inl, inr}
-use Prim.Native.Nat.{ℕ, zero, suc, _+_, _*_, _≤_, _<_}
+use mathlib.Core.Logic.{inl, inr}
+use Prim.Native.Nat.{ℕ, _*_, _≤_, _<_}
 use native.Mathlib.Omega.{arith}
 use lib.Dec.{T, leb, leb→le, lit<, lit≤}
-use lib.ListN.{length, getD}
+use lib.ListN.{length}
 use Rattle.laws.specs.Sums.{sumTo}
 use Rattle.laws.proofs.Table.{both, both-left, both-right, every, at as entry-at}
 use Rattle.curve.specs.Levels.{at, bottom, Entries, Count}

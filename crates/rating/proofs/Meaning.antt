@@ -2,25 +2,22 @@
 -- (for impact the least) over all of ℤ. One proof over the kind. Assumes nothing.
 use mathlib.Core.Path.{_≡_, refl, sym, _∙_, ap, ap₂, subst}
 use mathlib.Core.Bool.{Bool, true, false}
-use mathlib.Core.List.{List}
-use Prim.Native.Nat.{ℕ, zero, suc, _+_, _*_, _-_, _/_, _≤_, _<_}
-use native.Mathlib.Nat.{le-trans, lt-of-le-of-lt, not-le-of-lt}
-use native.Mathlib.Decide.{decLe, decLt}
+use Prim.Native.Nat.{ℕ, suc, _+_, _*_, _-_, _≤_, _<_}
+use native.Mathlib.Nat.{lt-of-le-of-lt, not-le-of-lt}
+use native.Mathlib.Decide.{decLe}
 use native.Mathlib.Omega.{arith}
 use lib.Dec.{T, leb, leb→le, le→leb}
 use borrow.Author.Tests.{le-leb, lt-leb}
 use lib.IntN.{ℤ, pos, negsuc, _+ℤ_, _-ℤ_}
-use lib.ListN.{getD}
-use lib.Signed.{_≤ℤ_}
 use Rattle.laws.specs.Parts.{P, N}
 use Rattle.laws.specs.Sums.{sumTo, sumℤ}
-use Rattle.laws.proofs.Ints.{ints, plus, minus, apart, le-made, eq-made}
+use Rattle.laws.proofs.Ints.{ints, plus, minus, le-made, eq-made}
 use Rattle.laws.proofs.Sums.{sum-same, sum-plus, sumℤ-parts}
 use Rattle.quantity.specs.Quantities.{bandOf}
 use Rattle.quantity.specs.declared.quantities.BandSet.{BandSet}
 use Rattle.curve.specs.Bands.{accepted}
-use Rattle.curve.specs.Levels.{at, levelBy, levelAt, startAt, totalAt, Settled}
-use Rattle.curve.proofs.Counted.{Counted, PartsOf, counted, level-parts}
+use Rattle.curve.specs.Levels.{at, levelAt, startAt, totalAt, Settled}
+use Rattle.curve.proofs.Counted.{PartsOf, counted, level-parts}
 use Rattle.curve.proofs.Searched.{band-in, count-most, count-some, sum-small, start-small, over-past}
 use Rattle.rating.specs.declared.kinds.Kind.{Kind}
 use Rattle.rating.specs.declared.kinds.Kind.the-variants.{A3, A1, I3, I1}

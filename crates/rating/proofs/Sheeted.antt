@@ -5,7 +5,6 @@ use mathlib.Core.Bool.{Bool, true, false}
 use mathlib.Core.List.{List}
 use Prim.Native.Nat.{ℕ, _+_, _*_, _-_, _≤_, _<_}
 use native.Mathlib.Omega.{arith}
-use lib.Dec.{eqb}
 use lib.IntN.{ℤ, pos, _-ℤ_, _*ℤ_}
 use Rattle.laws.specs.Parts.{P, N}
 use Rattle.laws.proofs.Ints.{minus, apart, times-P, times-N}
@@ -13,19 +12,19 @@ use Rattle.quantity.specs.Quantities.{halfUp, bandOf}
 use Rattle.quantity.specs.declared.quantities.BandSet.{BandSet}
 use Rattle.quantity.specs.declared.quantities.Decibels.{Decibels}
 use Rattle.curve.specs.Bands.{accepted, limited, anyTo, bit}
-use Rattle.curve.specs.Levels.{at, levelBy, levelAt, bottom, Entries}
-use Rattle.curve.proofs.Counted.{Counted, PartsOf, counted, level-parts, Up, Down}
+use Rattle.curve.specs.Levels.{at, levelAt, Entries}
+use Rattle.curve.proofs.Counted.{PartsOf, counted, level-parts, Up}
 use Rattle.curve.proofs.Searched.{band-in, count-most, count-some}
 use Rattle.rating.specs.declared.kinds.Kind.{Kind}
 use Rattle.rating.specs.declared.kinds.Numbers.{Numbers}
 use Rattle.rating.specs.declared.sheets.Sheet.{Sheet}
 use Rattle.rating.specs.declared.sheets.Term.{Term}
 use Rattle.rating.specs.declared.sheets.Term.the-variants.{Given, Absent}
-use Rattle.rating.specs.Kinds.{airborne, bandsOf, limitOf, C, Ctr}
+use Rattle.rating.specs.Kinds.{airborne, bandsOf, C, Ctr}
 use Rattle.rating.specs.Curve.{ratingOf, shiftsOf}
-use Rattle.rating.specs.Terms.{less, airborneTerm, impactTerm}
+use Rattle.rating.specs.Terms.{airborneTerm}
 use Rattle.rating.specs.Sheets.{decibels, firstBy, secondBy, sheetOf}
-use Rattle.rating.specs.Numbers.{weightBy, entriesOf, firstOf, secondOf, numbersOf, Sound, Sought, ratingAt, ratingBy, termOf}
+use Rattle.rating.specs.Numbers.{weightBy, firstOf, secondOf, numbersOf, Sound, Sought, ratingAt, ratingBy, termOf}
 use Rattle.rating.proofs.Bridge.{listed-is}
 use Rattle.rating.proofs.Facts.{count-of, first-fit, second-fit, sound-of}
 use Rattle.rating.proofs.Meaning.{rating-is, shifts-is, start-below}

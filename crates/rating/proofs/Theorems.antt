@@ -10,10 +10,9 @@ use native.Mathlib.Omega.{arith}
 use lib.Dec.{T, eqb, leb}
 use lib.IntN.{ℤ, pos, _+ℤ_, _-ℤ_, _*ℤ_}
 use lib.ListN.{getD}
-use lib.Signed.{_≤ℤ_}
-use Rattle.laws.specs.Parts.{P, N}
+use Rattle.laws.specs.Parts.{P}
 use Rattle.laws.specs.Sums.{sumTo, sumℤ}
-use Rattle.laws.proofs.Ints.{ints, plus, minus, apart, eq-made, le-read}
+use Rattle.laws.proofs.Ints.{plus, minus, eq-made, le-read}
 use Rattle.laws.proofs.Sums.{sum-same, sumℤ-same}
 use Rattle.quantity.specs.Quantities.{inRange, halfUp, bandOf}
 use Rattle.quantity.specs.declared.quantities.BandSet.{BandSet}
@@ -25,9 +24,7 @@ use Rattle.curve.specs.Levels.{levelAt, startAt}
 use Rattle.curve.proofs.Walks.{all-made}
 use Rattle.curve.proofs.Searched.{count-most, count-some, found}
 use Rattle.rating.specs.declared.kinds.Kind.{Kind}
-use Rattle.rating.specs.declared.sheets.Rated.{Rated}
 use Rattle.rating.specs.declared.sheets.Rated.the-variants.{Rating, Refused}
-use Rattle.rating.specs.declared.sheets.Sheet.{Sheet}
 use Rattle.rating.specs.declared.sheets.Term.the-variants.{Given}
 use Rattle.rating.specs.Kinds.{airborne, bandsOf, limitOf, referenceOf, C, Ctr}
 use Rattle.rating.specs.Curve.{deficit, total, within, stricterBy, IsPosition, startBy, startOf, shiftedBy, shifted, firstFrom, shiftsOf, positionOf, takenOff, ratingOf}

@@ -1,8 +1,7 @@
 -- The terms: a least over ℤ and its mirror, a greatest, are one least over the levels; the energies above it are the same
 -- ones, and so is the term in tenths. Assumes nothing.
-use mathlib.Core.Path.{_≡_, refl, sym, _∙_, ap, ap₂, subst}
+use mathlib.Core.Path.{_≡_, refl, _∙_, ap, ap₂}
 use mathlib.Core.Bool.{Bool, true, false, cond}
-use mathlib.Core.List.{List}
 use Prim.Native.Nat.{ℕ, zero, suc, _+_, _*_, _-_, _≤_, _<_, min}
 use native.Mathlib.Nat.{le-refl}
 use native.Mathlib.Omega.{arith}
@@ -12,7 +11,7 @@ use Rattle.laws.specs.Parts.{P, N}
 use Rattle.laws.specs.Extremes.{greatest}
 use Rattle.laws.specs.Sums.{sumTo}
 use Rattle.laws.proofs.Extremes.{greatest-below}
-use Rattle.laws.proofs.Ints.{ints, plus, minus, apart, times-P, times-N, eq-made, le-yes, le-no}
+use Rattle.laws.proofs.Ints.{plus, minus, apart, times-P, times-N, eq-made, le-yes, le-no}
 use Rattle.laws.proofs.Sums.{sum-same}
 use Rattle.energy.specs.Energies.{F, u, levelRule}
 use Rattle.curve.specs.Levels.{minTo, leastOf, energiesOf}
@@ -21,8 +20,8 @@ use Rattle.curve.proofs.Counted.{Up, Down}
 use Rattle.rating.specs.declared.kinds.Kind.{Kind}
 use Rattle.rating.specs.Kinds.{bandsOf}
 use Rattle.rating.specs.Curve.{ratingOf}
-use Rattle.rating.specs.Terms.{lesser, greater, leastTo, greatestTo, less, leastEnergies, greatestEnergies, weighted, airborneTerm, impactTerm}
-use Rattle.rating.specs.Numbers.{weightBy, ratingBy, termBy, termOf}
+use Rattle.rating.specs.Terms.{lesser, greater, leastTo, greatestTo, less, weighted, airborneTerm, impactTerm}
+use Rattle.rating.specs.Numbers.{ratingBy, termBy, termOf}
 
 pub u-small : (S : ℕ) → u S < 256
 unfolding u

@@ -4,14 +4,13 @@ use mathlib.Core.Bool.{Bool, true, false, cond, _&&_}
 use mathlib.Core.List.{List, [], _∷_, _++_, map, append-assoc}
 use Prim.Native.Nat.{ℕ, zero, suc, _+_, _-_, _≤_, _<_}
 use native.Mathlib.Omega.{arith}
-use borrow.Author.Tests.{le-leb, lt-leb, leb-true, leb-false, eq-eqb, ne-eqb, eqb-true, eqb-false}
+use borrow.Author.Tests.{le-leb, lt-leb, eq-eqb, ne-eqb, eqb-true}
 use lib.Dec.{leb, eqb}
 use lib.IntN.{ℤ}
 use lib.ListN.{length, getD, replicate, take, drop, length-append, length-drop}
 use lib.Seq.{length-take-le}
 use Rattle.quantity.specs.Quantities.{inRange}
 use Rattle.quantity.specs.declared.quantities.Tenths.{Tenths}
-use Rattle.quantity.specs.declared.quantities.BandSet.{BandSet}
 use Rattle.quantity.specs.declared.refusals.Refusal.the-variants.{BandCount, NoReading, BandRange}
 use Rattle.curve.specs.Bands.{accepted}
 use Rattle.curve.proofs.Walks.{all-made}
@@ -28,14 +27,14 @@ use Rattle.reply.specs.declared.requests.Reply.{Reply}
 use Rattle.answer.specs.Texts.{others, lineText, kindText, fieldsOf, ratedText, noRequestText}
 use Rattle.request.specs.Texts.{Band}
 use Rattle.request.specs.Texts.Band.{missing, level}
-use Rattle.request.specs.Reading.{byteAt, Bands, bandsFrom, bandsAt, keySpan, kindAt, Asked, withBands, withKey, withKind, requestAt}
+use Rattle.request.specs.Reading.{byteAt, Bands, bandsAt, keySpan, kindAt, Asked, withBands, withKey, withKind, requestAt}
 use Rattle.request.specs.Reading.Bands.{broken, ended}
 use Rattle.request.specs.Reading.Asked.{asked}
 use Rattle.request.specs.Gathering.{nought, valueOf, orElse, firstFault, marksOf, valuesOf, Holds, GatheredAt}
 use Rattle.reply.specs.Answers.{setOf, judgedBy, judged, judgedIn, Clean, noReply, replyTo, replyAt, replyText, Keyed}
 use Rattle.request.proofs.Leaves.{inside}
 use Rattle.request.proofs.Stands.{Stands, fits}
-use Rattle.request.proofs.Wholes.{BandsGood, bands-ok, span-most, kind-ok, kind-two, text-length, RequestAt, RequestGood, request-ok}
+use Rattle.request.proofs.Wholes.{BandsGood, bands-ok, span-most, kind-ok, kind-two, text-length, RequestGood, request-ok}
 
 sixteen : (kind : Kind) → bandsOf kind ≤ 16
 sixteen A3 = omega arith

@@ -1,14 +1,14 @@
 -- Reading is exact: what a reader gives stands in the line as its text, and where a text stands its reader gives it.
 -- Assumes nothing.
 use mathlib.Core.Path.{_≡_, refl, sym, _∙_, ap, subst}
-use mathlib.Core.Bool.{Bool, true, false, cond, _&&_}
+use mathlib.Core.Bool.{Bool, true, false, cond}
 use mathlib.Core.List.{List, [], _∷_, _++_, append-assoc}
 use Prim.Native.Nat.{ℕ, zero, suc, _+_, _*_, _-_, _/_, _%_, _≤_, _<_}
 use native.Mathlib.Omega.{arith}
-use borrow.Author.Tests.{lt-ltb, le-ltb, le-leb, lt-leb, eq-eqb, ne-eqb, ltb-true, ltb-false, eqb-true, eqb-false}
-use lib.Dec.{leb, ltb, eqb, T, eqb·suc-zero}
-use lib.IntN.{ℤ, pos, negsuc, negℤ}
-use lib.ListN.{length, getD, take, drop, length-append}
+use borrow.Author.Tests.{lt-ltb, le-ltb, eq-eqb, ne-eqb, ltb-true, ltb-false, eqb-true, eqb-false}
+use lib.Dec.{ltb, eqb, T, eqb·suc-zero}
+use lib.IntN.{ℤ, pos, negsuc}
+use lib.ListN.{length, length-append}
 use Rattle.laws.specs.Parts.{P, N}
 use Rattle.request.specs.declared.bands.Figure.{Figure}
 use Rattle.request.specs.declared.bands.Figure.the-variants.{Read, Nothing}
@@ -21,7 +21,7 @@ use Rattle.request.specs.Reading.Found.{found}
 use Rattle.request.proofs.Leaves.{inside, digit-read, digit-made}
 use Rattle.request.proofs.Readers.{tenth-got, third-point, second-point, second-more, first-point, first-more, figure-some, figure-none}
 use Rattle.answer.proofs.Decimals.{decimal-one, decimal-step}
-use Rattle.request.proofs.Stands.{Stands, Stood, one-more, joined, front-part, back-part, move}
+use Rattle.request.proofs.Stands.{Stands, Stood, one-more, joined, move}
 
 figure-step : (a b : ℕ) → b < 10 → figureText (10 * a + b) ≡ (decimal a ++ (46 ∷ [])) ++ ((48 + b) ∷ [])
 unfolding figureText

@@ -1,13 +1,12 @@
 -- The loop over the bands: what was read so far, and what the rest of the line gives, are the bands of the line. Assumes nothing.
 use mathlib.Core.Path.{_≡_, refl, sym, _∙_, ap, subst}
-use mathlib.Core.Bool.{Bool, true, false, cond}
-use mathlib.Core.List.{List, [], _∷_, _++_, map, append-nil, append-assoc}
+use mathlib.Core.Bool.{Bool, true, false}
+use mathlib.Core.List.{List, [], _∷_, _++_, map, append-assoc}
 use Prim.Native.Nat.{ℕ, zero, suc, _+_, _*_, _-_, _^_, _≤_, _<_}
 use native.Mathlib.Nat.{pow-suc}
 use lib.Pow.{pow-mono}
 use native.Mathlib.Omega.{arith}
-use lib.IntN.{pos}
-use lib.ListN.{length, set, replicate, length-append, length-map, length-replicate, length-set}
+use lib.ListN.{length, set, replicate, length-append, length-map, length-set}
 use lib.Seq.{set-at}
 use Rattle.quantity.specs.declared.quantities.Tenths.{Tenths}
 use Rattle.request.specs.declared.bands.Field.{Field}
@@ -16,11 +15,10 @@ use Rattle.request.specs.Texts.{Band}
 use Rattle.request.specs.Reading.{byteAt, Found, bandAt, Bands, bandsFrom, bandsAt}
 use Rattle.request.specs.Reading.Found.{found}
 use Rattle.request.specs.Reading.Bands.{broken, ended}
-use Rattle.request.specs.Gathering.{nought, valueOf, markOf, faultOf, orElse, firstFault, bitOf, marksOf, valuesOf, fieldOf, weightBy, Holds, GatheredAt}
+use Rattle.request.specs.Gathering.{nought, valueOf, markOf, faultOf, orElse, firstFault, bitOf, marksOf, valuesOf, fieldOf, weightBy, GatheredAt}
 use Rattle.request.proofs.Leaves.{inside}
 use Rattle.request.proofs.Readers.{bands-tab, bands-broken, bands-end, bands-none}
 use Rattle.request.proofs.Exact.{band-ok, FoundOk}
-use Rattle.request.proofs.Stands.{fits}
 
 -- one band more, at the end
 fault-more : (bs : List Band) (b : Band) → firstFault (bs ++ (b ∷ [])) ≡ orElse (firstFault bs) (faultOf b)

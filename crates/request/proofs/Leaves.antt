@@ -1,12 +1,12 @@
 -- Single bytes: a byte that is not 0 stands within the line; a digit is its value above 48. Assumes nothing.
 use mathlib.Core.Path.{_≡_, refl, sym, _∙_, ap, subst}
-use mathlib.Core.Bool.{Bool, true, false, cond, _&&_, _||_}
+use mathlib.Core.Bool.{Bool, true, false, cond, _&&_}
 use mathlib.Core.List.{List, [], _∷_}
 use Prim.Native.Nat.{ℕ, zero, suc, _+_, _-_, _≤_, _<_, suc-le-suc}
 use native.Mathlib.Omega.{arith}
-use borrow.Author.Tests.{le-leb, lt-leb, leb-true, leb-false, eq-eqb, ne-eqb, eqb-true}
+use borrow.Author.Tests.{le-leb, lt-leb, leb-true, leb-false, eq-eqb, ne-eqb}
 use lib.Dec.{leb, eqb, T}
-use lib.ListN.{length, getD}
+use lib.ListN.{length}
 use Rattle.request.specs.Texts.{between, keyByte}
 use Rattle.request.specs.Reading.{byteAt, digitOf}
 
@@ -22,14 +22,6 @@ digit-yes b h k = simp (le-leb 48 b h, le-leb b 57 k)
 pub digit-low : (b : ℕ) → b < 48 → 10 ≡ digitOf b
 unfolding digitOf
 digit-low b h = simp (lt-leb 48 b h)
-
-pub digit-high : (b : ℕ) → 57 < b → 10 ≡ digitOf b
-unfolding digitOf
-digit-high b h = go (leb 48 b)
-  where
-    go : (x : Bool) → 10 ≡ cond (x && leb b 57) (b - 48) 10
-    go true = simp (lt-leb b 57 h)
-    go false = refl
 
 -- the test of a digit
 pub digit-between : (b : ℕ) → between 48 57 b ≡ true → (48 ≤ b) × (b ≤ 57)

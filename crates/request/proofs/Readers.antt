@@ -1,13 +1,13 @@
 -- One law for each way out of a reader: what the tests on the way say, and what is then read. Assumes nothing.
 use mathlib.Core.Path.{_≡_, refl, sym, _∙_, ap, subst}
-use mathlib.Core.Bool.{Bool, true, false, cond, not, _&&_}
+use mathlib.Core.Bool.{Bool, true, false, cond, not}
 use mathlib.Core.List.{List, [], _∷_, _++_}
 use Prim.Native.Nat.{ℕ, zero, suc, _+_, _*_, _-_, _≤_, _<_}
 use native.Mathlib.Omega.{arith}
-use borrow.Author.Tests.{lt-ltb, le-ltb, le-leb, lt-leb, eq-eqb, ne-eqb, ltb-true, ltb-false, eqb-true, eqb-false, not-true, not-false}
-use lib.Dec.{leb, ltb, eqb}
+use borrow.Author.Tests.{lt-ltb, le-ltb, eq-eqb, ne-eqb, ltb-true}
+use lib.Dec.{ltb, eqb}
 use lib.IntN.{ℤ, pos, negℤ, _-ℤ_}
-use lib.ListN.{length, getD, take, drop}
+use lib.ListN.{length, drop}
 use Rattle.laws.proofs.Ints.{ints, minus, opposite, eq-made, apart}
 use Rattle.quantity.specs.Quantities.{inRange}
 use Rattle.quantity.proofs.Rim.{range-yes}
@@ -18,23 +18,19 @@ use Rattle.request.specs.declared.bands.Field.{Field}
 use Rattle.request.specs.declared.bands.Figure.{Figure}
 use Rattle.request.specs.declared.bands.Figure.the-variants.{Read, Nothing}
 use Rattle.request.specs.Reading.{byteAt, digitOf, digitAt, tenthBy, tenthAt, thirdAt, secondAt, firstAt, figureAt}
-use Rattle.request.specs.Reading.{Found, signedBy, levelAt, bandAt, Bands, bandsFrom, keySpan, kindAt}
+use Rattle.request.specs.Reading.{Found, signedBy, levelAt, bandAt, bandsFrom, keySpan, kindAt}
 use Rattle.request.specs.Reading.Bands.{broken, ended}
 use Rattle.request.specs.declared.heads.Named.{Named}
 use Rattle.request.specs.declared.heads.Named.the-variants as named
 use Rattle.rating.specs.declared.kinds.Kind.the-variants.{A3, A1, I3, I1}
 use Rattle.request.specs.Reading.Found.{found}
 use Rattle.request.specs.Gathering.{Small, Short, fieldOf, orElse}
-use Rattle.request.proofs.Leaves.{inside, Digit, digit-yes, digit-beside, digit-read, digit-most, key-range}
+use Rattle.request.proofs.Leaves.{inside, Digit, digit-yes, digit-beside, digit-read, key-range}
 
 module _ (s : List ℕ) (at whole : ℕ) where
   pub tenth-got : (d : ℕ) → d ≡ digitAt s at → d < 10 → Read (10 * whole + d) (at + 1) ≡ tenthAt s at whole
   unfolding tenthAt
   tenth-got d e h = rw (lt-ltb (digitAt s at) 10 (omega arith)) (ap (λ (x : ℕ). Read (10 * whole + x) (at + 1)) e)
-
-  pub tenth-none : (d : ℕ) → d ≡ digitAt s at → 10 ≤ d → Nothing ≡ tenthAt s at whole
-  unfolding tenthAt
-  tenth-none d e h = rw (le-ltb (digitAt s at) 10 (omega arith))
 
   pub third-point : (b : ℕ) → b ≡ byteAt s at → b ≡ 46 → tenthAt s (at + 1) whole ≡ thirdAt s at whole
   unfolding thirdAt

@@ -4,7 +4,7 @@ use mathlib.Core.List.{List, [], _∷_, _++_}
 use Prim.Native.Nat.{ℕ, zero, suc, _+_, _≤_, _<_}
 use native.Mathlib.Omega.{arith}
 use lib.ListN.{length, getD, take, drop, length-append}
-use lib.Seq.{drop-cons, getD-append-add, getD-at}
+use lib.Seq.{drop-cons, getD-at}
 use Rattle.request.specs.Reading.{byteAt}
 
 pub record Stood (s : List ℕ) (at b : ℕ) : Type 0 where

@@ -1,6 +1,6 @@
 -- `rate::advance` is safe: what the block call used and wrote lies within its part and its output. Assumes nothing.
 use borrow.Author.Needs.{needs}
-use mathlib.Core.Path.{sym, _∙_}
+use mathlib.Core.Path.{sym}
 use native.Mathlib.Omega.{arith}
 use lib.Seq.{length-take-le}
 use Rattle.rate.proofs.advance.Statement.{statement}

@@ -1,10 +1,9 @@
 -- `rate::run` is safe and ends: the bytes that wait stay within the buffer, and the turns run out. Assumes nothing.
 use mathlib.Core.Path.{_≡_, refl, _∙_, subst, sym}
-use Prim.Native.Nat.{ℕ, _+_, _-_, _≤_}
+use Prim.Native.Nat.{_-_}
 use native.Mathlib.Omega.{arith}
 use borrow.Author.Needs.{needs}
 use lib.ListN.{length}
-use Rattle.rate.specs.declared.State.{State}
 use Rattle.rate.specs.Waits.{Waits}
 use Rattle.rate.proofs.run.Statement.{statement}
 use Rattle.rate.proofs.run.Tie as tie

@@ -3,8 +3,6 @@ use Rattle.answer.proofs.Decimals.{digits-are}
 use Rattle.answer.proofs.Writers.{one-length}
 use Rattle.answer.proofs.texts.decimal_len.Statement.{statement}
 use Rattle.answer.proofs.texts.decimal_len.Tie as tie
-use Rattle.answer.proofs.texts.decimal_len.Reads as reads
-use Rattle.answer.proofs.texts.decimal_len.Lts as lts
 
 -- src/texts.rt:22:9
 returns : tie.Need-returns

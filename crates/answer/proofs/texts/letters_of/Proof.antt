@@ -1,8 +1,6 @@
 use borrow.Author.Needs.{needs}
 use Rattle.answer.proofs.texts.letters_of.Statement.{statement}
 use Rattle.answer.proofs.texts.letters_of.Tie as tie
-use Rattle.answer.proofs.texts.letters_of.Reads as reads
-use Rattle.answer.proofs.texts.letters_of.Lts as lts
 
 -- src/texts.rt:127:21
 enum-told : tie.Need-enum-told

@@ -1,16 +1,11 @@
-use mathlib.Core.Path.{_≡_, sym, _∙_, ap, subst}
 use native.Mathlib.Omega.{arith}
 use mir.Facts.{toZ-ofZ}
-use Rattle.laws.specs.Parts.{P, N}
-use Rattle.laws.proofs.Ints.{ints, fits-made, fits-read, apart, plus}
-use Rattle.answer.specs.Texts.{decimal}
-use Rattle.answer.proofs.Writers.{succ-below, below-length, above-length}
+use Rattle.laws.specs.Parts.{N}
+use Rattle.laws.proofs.Ints.{fits-made, fits-read}
+use Rattle.answer.proofs.Writers.{succ-below}
 use lib.IntN.{pos, _+ℤ_}
 use Rattle.answer.proofs.texts.magnitude.Statement.{statement}
 use Rattle.answer.proofs.texts.magnitude.Tie as tie
-use Rattle.answer.proofs.texts.magnitude.Reads as reads
-use Rattle.answer.proofs.texts.magnitude.Lts as lts
-use Rattle.quantity.proofs.signed.below.Reads as below-reads
 
 -- src/texts.rt:56:11
 add-below : tie.Need-add-below

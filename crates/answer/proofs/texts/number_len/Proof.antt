@@ -1,20 +1,15 @@
-use mathlib.Core.Path.{_≡_, sym, _∙_, ap, subst}
+use mathlib.Core.Path.{_≡_, _∙_, ap}
 use native.Mathlib.Omega.{arith}
 use mir.Facts.{toZ-ofZ}
 use Rattle.laws.specs.Parts.{P, N}
-use Rattle.laws.proofs.Ints.{ints, fits-made, fits-read, apart, plus}
+use Rattle.laws.proofs.Ints.{ints, fits-read, apart}
 use Rattle.answer.specs.Texts.{decimal}
-use Rattle.answer.proofs.Writers.{succ-below, below-length, above-length}
+use Rattle.answer.proofs.Writers.{below-length, above-length}
 use Prim.Native.Nat.{_<_}
 use lib.ListN.{length}
 use borrow.Author.Needs.{needs}
 use Rattle.answer.proofs.texts.number_len.Statement.{statement}
 use Rattle.answer.proofs.texts.number_len.Tie as tie
-use Rattle.answer.proofs.texts.number_len.Reads as reads
-use Rattle.answer.proofs.texts.number_len.Lts as lts
-use Rattle.answer.proofs.texts.decimal_len.Reads as decimal-len-reads
-use Rattle.answer.proofs.texts.magnitude.Reads as magnitude-reads
-use Rattle.quantity.proofs.signed.above.Reads as above-reads
 
 -- src/texts.rt:65:32
 magnitude-requires : tie.Need-magnitude-requires

@@ -1,17 +1,13 @@
-use mathlib.Core.Path.{_≡_, refl, sym, _∙_, ap}
-use mathlib.Core.List.{List, [], _∷_, _++_}
-use Prim.Native.Nat.{_+_}
+use mathlib.Core.Path.{refl, _∙_, ap}
+use mathlib.Core.List.{[], _∷_}
 use native.Mathlib.Omega.{arith}
-use lib.ListN.{length, take, drop, length-set, length-take, length-append}
+use lib.ListN.{length}
 use Rattle.answer.specs.Texts.{front, decimal}
-use Rattle.answer.proofs.Fronts.{front-length, front-more, tail-within, tail-length, tail-home, tail-same}
+use Rattle.answer.proofs.Fronts.{front-length, tail-within, tail-length, tail-home}
 use Rattle.answer.proofs.Writers.{stored1}
 use borrow.Author.Needs.{needs}
 use Rattle.answer.proofs.texts.put_count.Statement.{statement}
 use Rattle.answer.proofs.texts.put_count.Tie as tie
-use Rattle.answer.proofs.texts.put_count.Reads as reads
-use Rattle.answer.proofs.texts.put_count.Lts as lts
-use Rattle.answer.proofs.texts.put_decimal.Reads as put-decimal-reads
 
 -- src/texts.rt:165:5
 slice-write-out : tie.Need-slice-write-out

@@ -1,17 +1,13 @@
-use mathlib.Core.Path.{_≡_, refl, sym, _∙_, ap}
+use mathlib.Core.Path.{refl, sym, _∙_, ap}
 use mathlib.Core.List.{List, [], _∷_, _++_}
 use native.Mathlib.Omega.{arith}
 use lib.ListN.{length, take, drop, length-set, length-take}
-use Rattle.answer.specs.Texts.{kindText, front}
-use Rattle.answer.proofs.Fronts.{front-length, tail-within, tail-length, tail-home, tail-same}
-use Rattle.answer.proofs.Writers.{stored1, stored2, stored3}
+use Rattle.answer.specs.Texts.{front}
+use Rattle.answer.proofs.Fronts.{tail-within, tail-length, tail-home, tail-same}
+use Rattle.answer.proofs.Writers.{stored3}
 use borrow.Author.Needs.{needs}
 use Rattle.answer.proofs.texts.put_head.Statement.{statement}
 use Rattle.answer.proofs.texts.put_head.Tie as tie
-use Rattle.answer.proofs.texts.put_head.Reads as reads
-use Rattle.answer.proofs.texts.put_head.Lts as lts
-use Rattle.answer.proofs.texts.letters_of.Reads as letters-of-reads
-use Rattle.answer.proofs.texts.put_key.Reads as put-key-reads
 
 -- src/texts.rt:153:9
 letters-of-requires : tie.Need-letters-of-requires

@@ -1,13 +1,11 @@
-use mathlib.Core.Path.{_≡_, refl, sym, _∙_, ap}
-use Prim.Native.Nat.{_-_, _≤_, _+_}
+use mathlib.Core.Path.{_≡_, refl, _∙_, ap}
+use Prim.Native.Nat.{_-_, _≤_}
 use native.Mathlib.Omega.{arith}
 use lib.ListN.{length, take, drop}
 use Rattle.answer.specs.Texts.{front}
 use Rattle.answer.proofs.Writers.{key-length, key-turn}
 use Rattle.answer.proofs.texts.put_key.Statement.{statement}
 use Rattle.answer.proofs.texts.put_key.Tie as tie
-use Rattle.answer.proofs.texts.put_key.Reads as reads
-use Rattle.answer.proofs.texts.put_key.Lts as lts
 
 abbrev Inv-loop : tie.InvT-loop
 Inv-loop s key len out₀ i₀ out i = (i ≤ len) × (out ≡ front (take i (drop key s)) out₀)

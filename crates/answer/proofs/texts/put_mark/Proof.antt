@@ -1,17 +1,11 @@
-use mathlib.Core.Path.{_≡_, refl, sym, _∙_, ap}
-use mathlib.Core.List.{List, [], _∷_, _++_}
-use Prim.Native.Nat.{_+_}
+use mathlib.Core.List.{[]}
 use native.Mathlib.Omega.{arith}
-use lib.ListN.{length, take, drop, length-set, length-take, length-append}
+use lib.ListN.{length, length-set}
 use Rattle.answer.specs.Texts.{front, setText}
-use Rattle.answer.proofs.Fronts.{front-length, front-more, tail-within, tail-length, tail-home, tail-same}
 use Rattle.answer.proofs.Writers.{others-length, mark-length, end-length, mark-front}
 use borrow.Author.Needs.{needs}
 use Rattle.answer.proofs.texts.put_mark.Statement.{statement}
 use Rattle.answer.proofs.texts.put_mark.Tie as tie
-use Rattle.answer.proofs.texts.put_mark.Reads as reads
-use Rattle.answer.proofs.texts.put_mark.Lts as lts
-use Rattle.answer.proofs.texts.mark.Reads as mark-reads
 
 -- src/texts.rt:181:5
 slice-write-out : tie.Need-slice-write-out

@@ -4,8 +4,6 @@ use Rattle.answer.proofs.Writers.{stored7}
 use borrow.Author.Needs.{needs}
 use Rattle.answer.proofs.texts.put_none.Statement.{statement}
 use Rattle.answer.proofs.texts.put_none.Tie as tie
-use Rattle.answer.proofs.texts.put_none.Reads as reads
-use Rattle.answer.proofs.texts.put_none.Lts as lts
 
 -- src/texts.rt:248:5
 slice-write-out : tie.Need-slice-write-out

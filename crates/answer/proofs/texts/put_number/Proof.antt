@@ -1,10 +1,9 @@
-use mathlib.Core.Path.{_≡_, refl, sym, _∙_, ap}
-use mathlib.Core.List.{List, [], _∷_, _++_}
-use Prim.Native.Nat.{_+_}
+use mathlib.Core.Path.{_≡_, refl, _∙_, ap}
+use mathlib.Core.List.{[], _∷_}
 use native.Mathlib.Omega.{arith}
-use lib.ListN.{length, take, drop, length-set, length-take, length-append}
+use lib.ListN.{length, take, length-set}
 use Rattle.answer.specs.Texts.{front, decimal, numberText}
-use Rattle.answer.proofs.Fronts.{front-length, front-more, tail-within, tail-length, tail-home, tail-same}
+use Rattle.answer.proofs.Fronts.{front-length, tail-within, tail-length, tail-home}
 use Prim.Native.Nat.{_<_}
 use mir.Facts.{toZ-ofZ}
 use Rattle.laws.specs.Parts.{P, N}
@@ -14,11 +13,6 @@ use Rattle.answer.proofs.Writers.{stored1, stored2, below-length, above
 use borrow.Author.Needs.{needs}
 use Rattle.answer.proofs.texts.put_number.Statement.{statement}
 use Rattle.answer.proofs.texts.put_number.Tie as tie
-use Rattle.answer.proofs.texts.put_number.Reads as reads
-use Rattle.answer.proofs.texts.put_number.Lts as lts
-use Rattle.answer.proofs.texts.magnitude.Reads as magnitude-reads
-use Rattle.answer.proofs.texts.put_decimal.Reads as put-decimal-reads
-use Rattle.quantity.proofs.signed.above.Reads as above-reads
 
 -- src/texts.rt:96:5
 slice-write-out : tie.Need-slice-write-out

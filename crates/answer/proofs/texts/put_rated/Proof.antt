@@ -1,18 +1,11 @@
-use mathlib.Core.Path.{_≡_, refl, sym, _∙_, ap}
-use mathlib.Core.List.{List, [], _∷_, _++_}
-use Prim.Native.Nat.{_+_}
+use mathlib.Core.Path.{sym, _∙_, ap}
+use mathlib.Core.List.{[], _∷_}
 use native.Mathlib.Omega.{arith}
-use lib.ListN.{length, take, drop, length-set, length-take, length-append}
+use lib.ListN.{length}
 use Rattle.answer.specs.Texts.{front, decimal, others, fieldsOf}
-use Rattle.answer.proofs.Fronts.{front-length, front-more, tail-within, tail-length, tail-home, tail-same}
 use borrow.Author.Needs.{needs}
 use Rattle.answer.proofs.texts.put_rated.Statement.{statement}
 use Rattle.answer.proofs.texts.put_rated.Tie as tie
-use Rattle.answer.proofs.texts.put_rated.Reads as reads
-use Rattle.answer.proofs.texts.put_rated.Lts as lts
-use Rattle.answer.proofs.texts.put_refused.Reads as put-refused-reads
-use Rattle.answer.proofs.texts.put_sheet.Reads as put-sheet-reads
-use Rattle.quantity.proofs.refusals.Refusal.number.Reads as number-reads
 
 -- src/texts.rt:238:23
 enum-known-rated : tie.Need-enum-known-rated

@@ -1,19 +1,15 @@
-use mathlib.Core.Path.{_≡_, refl, sym, _∙_, ap}
-use mathlib.Core.List.{List, [], _∷_, _++_}
+use mathlib.Core.Path.{_∙_, ap}
+use mathlib.Core.List.{_∷_}
 use Prim.Native.Nat.{_+_}
 use native.Mathlib.Omega.{arith}
-use lib.ListN.{length, take, drop, length-set, length-take, length-append}
+use lib.ListN.{length}
 use Rattle.answer.specs.Texts.{front, numberText, others, firstFields}
-use Rattle.answer.proofs.Fronts.{front-length, front-more, tail-within, tail-length, tail-home, tail-same}
+use Rattle.answer.proofs.Fronts.{tail-within, tail-length, tail-home}
 use Rattle.quantity.proofs.Rim.{back}
 use Rattle.answer.proofs.Writers.{others-length, field-front}
 use borrow.Author.Needs.{needs}
 use Rattle.answer.proofs.texts.put_rating.Statement.{statement}
 use Rattle.answer.proofs.texts.put_rating.Tie as tie
-use Rattle.answer.proofs.texts.put_rating.Reads as reads
-use Rattle.answer.proofs.texts.put_rating.Lts as lts
-use Rattle.answer.proofs.texts.put_first.Reads as put-first-reads
-use Rattle.answer.proofs.texts.put_number.Reads as put-number-reads
 
 -- src/texts.rt:221:9
 put-number-requires : tie.Need-put-number-requires

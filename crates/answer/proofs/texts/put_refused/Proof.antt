@@ -1,17 +1,13 @@
-use mathlib.Core.Path.{_≡_, refl, sym, _∙_, ap}
-use mathlib.Core.List.{List, [], _∷_, _++_}
-use Prim.Native.Nat.{_+_}
+use mathlib.Core.Path.{_∙_, ap}
+use mathlib.Core.List.{_∷_}
 use native.Mathlib.Omega.{arith}
-use lib.ListN.{length, take, drop, length-set, length-take, length-append}
-use Rattle.answer.specs.Texts.{front, decimal, others}
-use Rattle.answer.proofs.Fronts.{front-length, front-more, tail-within, tail-length, tail-home, tail-same}
+use lib.ListN.{length}
+use Rattle.answer.specs.Texts.{front, decimal}
+use Rattle.answer.proofs.Fronts.{front-length}
 use Rattle.answer.proofs.Writers.{refused-length, end-front}
 use borrow.Author.Needs.{needs}
 use Rattle.answer.proofs.texts.put_refused.Statement.{statement}
 use Rattle.answer.proofs.texts.put_refused.Tie as tie
-use Rattle.answer.proofs.texts.put_refused.Reads as reads
-use Rattle.answer.proofs.texts.put_refused.Lts as lts
-use Rattle.answer.proofs.texts.put_count.Reads as put-count-reads
 
 -- src/texts.rt:240:9
 put-count-requires : tie.Need-put-count-requires

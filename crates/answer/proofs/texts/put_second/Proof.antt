@@ -1,18 +1,12 @@
-use mathlib.Core.Path.{_≡_, refl, sym, _∙_, ap}
-use mathlib.Core.List.{List, [], _∷_, _++_}
-use Prim.Native.Nat.{_+_}
+use mathlib.Core.List.{_∷_}
 use native.Mathlib.Omega.{arith}
-use lib.ListN.{length, take, drop, length-set, length-take, length-append}
+use lib.ListN.{length}
 use Rattle.answer.specs.Texts.{front, termText, others, shiftsFields}
-use Rattle.answer.proofs.Fronts.{front-length, front-more, tail-within, tail-length, tail-home, tail-same}
+use Rattle.answer.proofs.Fronts.{tail-within, tail-length, tail-home}
 use Rattle.answer.proofs.Writers.{others-length, field-front}
 use borrow.Author.Needs.{needs}
 use Rattle.answer.proofs.texts.put_second.Statement.{statement}
 use Rattle.answer.proofs.texts.put_second.Tie as tie
-use Rattle.answer.proofs.texts.put_second.Reads as reads
-use Rattle.answer.proofs.texts.put_second.Lts as lts
-use Rattle.answer.proofs.texts.put_shifts.Reads as put-shifts-reads
-use Rattle.answer.proofs.texts.put_term.Reads as put-term-reads
 
 -- src/texts.rt:201:9
 put-term-requires : tie.Need-put-term-requires

@@ -1,17 +1,13 @@
-use mathlib.Core.Path.{_≡_, refl, sym, _∙_, ap}
-use mathlib.Core.List.{List, [], _∷_, _++_}
-use Prim.Native.Nat.{_+_}
+use mathlib.Core.Path.{refl, _∙_, ap}
+use mathlib.Core.List.{[], _∷_}
 use native.Mathlib.Omega.{arith}
-use lib.ListN.{length, take, drop, length-set, length-take, length-append}
+use lib.ListN.{length, length-set}
 use Rattle.answer.specs.Texts.{front, others, ratingFields, sheetFields}
-use Rattle.answer.proofs.Fronts.{front-length, front-more, tail-within, tail-length, tail-home, tail-same}
+use Rattle.answer.proofs.Fronts.{front-length, tail-within, tail-length, tail-home}
 use Rattle.answer.proofs.Writers.{stored2, others-length, field-front}
 use borrow.Author.Needs.{needs}
 use Rattle.answer.proofs.texts.put_sheet.Statement.{statement}
 use Rattle.answer.proofs.texts.put_sheet.Tie as tie
-use Rattle.answer.proofs.texts.put_sheet.Reads as reads
-use Rattle.answer.proofs.texts.put_sheet.Lts as lts
-use Rattle.answer.proofs.texts.put_rating.Reads as put-rating-reads
 
 -- src/texts.rt:230:5
 slice-write-out : tie.Need-slice-write-out

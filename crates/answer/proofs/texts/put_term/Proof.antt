@@ -1,18 +1,14 @@
-use mathlib.Core.Path.{_≡_, refl, sym, _∙_, ap}
-use mathlib.Core.List.{List, [], _∷_, _++_}
+use mathlib.Core.Path.{sym, _∙_, ap}
+use mathlib.Core.List.{_∷_}
 use Prim.Native.Nat.{_+_}
 use native.Mathlib.Omega.{arith}
-use lib.ListN.{length, take, drop, length-set, length-take, length-append}
+use lib.ListN.{length, length-set}
 use Rattle.answer.specs.Texts.{front, numberText, termText}
-use Rattle.answer.proofs.Fronts.{front-length, front-more, tail-within, tail-length, tail-home, tail-same}
 use Rattle.quantity.proofs.Rim.{back}
 use Rattle.answer.proofs.Writers.{stored2}
 use borrow.Author.Needs.{needs}
 use Rattle.answer.proofs.texts.put_term.Statement.{statement}
 use Rattle.answer.proofs.texts.put_term.Tie as tie
-use Rattle.answer.proofs.texts.put_term.Reads as reads
-use Rattle.answer.proofs.texts.put_term.Lts as lts
-use Rattle.answer.proofs.texts.put_number.Reads as put-number-reads
 
 -- src/texts.rt:111:21
 enum-known-term : tie.Need-enum-known-term

@@ -1,18 +1,12 @@
-use mathlib.Core.Path.{_≡_, sym, _∙_, ap, subst}
+use mathlib.Core.Path.{sym, _∙_, ap}
 use native.Mathlib.Omega.{arith}
 use lib.ListN.{length}
-use Rattle.quantity.proofs.Rim.{back}
-use Rattle.answer.specs.Texts.{decimal, numberText, termText, others, fieldsOf}
+use Rattle.answer.specs.Texts.{decimal, others, fieldsOf}
 use Rattle.quantity.specs.Refusals.{numberOf}
 use Rattle.answer.proofs.Writers.{refused-length}
 use borrow.Author.Needs.{needs}
 use Rattle.answer.proofs.texts.rated_len.Statement.{statement}
 use Rattle.answer.proofs.texts.rated_len.Tie as tie
-use Rattle.answer.proofs.texts.rated_len.Reads as reads
-use Rattle.answer.proofs.texts.rated_len.Lts as lts
-use Rattle.answer.proofs.texts.decimal_len.Reads as decimal-len-reads
-use Rattle.answer.proofs.texts.sheet_len.Reads as sheet-len-reads
-use Rattle.quantity.proofs.refusals.Refusal.number.Reads as number-reads
 
 -- src/texts.rt:228:23
 enum-known-rated : tie.Need-enum-known-rated

@@ -1,17 +1,12 @@
-use mathlib.Core.Path.{_≡_, sym, _∙_, ap, subst}
+use mathlib.Core.Path.{_∙_, ap}
 use native.Mathlib.Omega.{arith}
 use lib.ListN.{length}
 use Rattle.quantity.proofs.Rim.{back}
-use Rattle.answer.specs.Texts.{decimal, numberText, termText, others, fieldsOf}
+use Rattle.answer.specs.Texts.{decimal, numberText}
 use Rattle.answer.proofs.Writers.{sheet-length}
 use borrow.Author.Needs.{needs}
 use Rattle.answer.proofs.texts.sheet_len.Statement.{statement}
 use Rattle.answer.proofs.texts.sheet_len.Tie as tie
-use Rattle.answer.proofs.texts.sheet_len.Reads as reads
-use Rattle.answer.proofs.texts.sheet_len.Lts as lts
-use Rattle.answer.proofs.texts.decimal_len.Reads as decimal-len-reads
-use Rattle.answer.proofs.texts.number_len.Reads as number-len-reads
-use Rattle.answer.proofs.texts.term_len.Reads as term-len-reads
 
 -- src/texts.rt:220:17
 number-len-requires : tie.Need-number-len-requires

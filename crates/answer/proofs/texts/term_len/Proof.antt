@@ -1,14 +1,11 @@
-use mathlib.Core.Path.{_≡_, sym, _∙_, ap, subst}
+use mathlib.Core.Path.{sym, _∙_, ap}
 use native.Mathlib.Omega.{arith}
 use lib.ListN.{length}
 use Rattle.quantity.proofs.Rim.{back}
-use Rattle.answer.specs.Texts.{decimal, numberText, termText, others, fieldsOf}
+use Rattle.answer.specs.Texts.{numberText, termText}
 use borrow.Author.Needs.{needs}
 use Rattle.answer.proofs.texts.term_len.Statement.{statement}
 use Rattle.answer.proofs.texts.term_len.Tie as tie
-use Rattle.answer.proofs.texts.term_len.Reads as reads
-use Rattle.answer.proofs.texts.term_len.Lts as lts
-use Rattle.answer.proofs.texts.number_len.Reads as number-len-reads
 
 -- src/texts.rt:209:21
 enum-known-term : tie.Need-enum-known-term

@@ -2,7 +2,6 @@
 use Prim.Native.Nat.{_-_, _≤_}
 use native.Mathlib.Omega.{arith}
 use borrow.Author.Needs.{needs}
-use lib.ListN.{length}
 use Rattle.cases.proofs.answers.print_places.Statement.{statement}
 use Rattle.cases.proofs.answers.print_places.Tie as tie
 

@@ -1,14 +1,12 @@
 -- `curve::levels::all_in_range` meets its contract. The invariant: the bands passed are in range. Assumes nothing.
-use mathlib.Core.Path.{_≡_, refl, sym, _∙_, ap}
+use mathlib.Core.Path.{_≡_, sym, _∙_, ap}
 use mathlib.Core.Bool.{true, false}
-use mathlib.Core.Logic.{⊎-elim}
-use Prim.Native.Nat.{ℕ, _+_, _*_, _-_, _≤_, _<_}
+use Prim.Native.Nat.{_-_, _≤_}
 use native.Mathlib.Omega.{arith}
 use borrow.Author.Needs.{needs}
 use borrow.Author.Tests.{not-true, not-false}
-use lib.ListN.{length, getD}
 use Rattle.quantity.specs.Quantities.{inRange, bandOf}
-use Rattle.curve.specs.Bands.{accepted, allTo}
+use Rattle.curve.specs.Bands.{accepted}
 use Rattle.curve.proofs.Walks.{all-none, all-more, all-fails}
 use Rattle.curve.proofs.levels.all_in_range.Statement.{statement}
 use Rattle.curve.proofs.levels.all_in_range.Tie as tie

@@ -1,11 +1,8 @@
 -- `curve::levels::energies` meets its contract. The invariant: the sum of the energies of the bands passed. Assumes nothing.
-use mathlib.Core.Path.{_≡_, refl, sym, _∙_, ap, subst}
-use mathlib.Core.Bool.{Bool, true, false}
-use mathlib.Core.Logic.{⊎-elim}
-use Prim.Native.Nat.{ℕ, _+_, _*_, _-_, _≤_, _<_}
+use mathlib.Core.Path.{_≡_, _∙_, ap}
+use Prim.Native.Nat.{ℕ, _-_, _≤_}
 use native.Mathlib.Omega.{arith}
 use borrow.Author.Needs.{needs}
-use lib.ListN.{length, getD}
 use Rattle.curve.specs.Levels.{at, energiesOf}
 use Rattle.curve.proofs.Walks.{energies-none, energies-more, energies-most}
 use Rattle.curve.proofs.levels.energies.Statement.{statement}

@@ -1,11 +1,8 @@
 -- `curve::levels::least` meets its contract. The invariant: the least of the bands passed. Assumes nothing.
-use mathlib.Core.Path.{_≡_, refl, sym, _∙_, ap}
-use mathlib.Core.Bool.{true, false}
+use mathlib.Core.Path.{_≡_, _∙_, ap}
 use mathlib.Core.Logic.{⊎-elim}
-use Prim.Native.Nat.{ℕ, _+_, _*_, _-_, _≤_, _<_}
+use Prim.Native.Nat.{ℕ, _-_, _≤_}
 use native.Mathlib.Omega.{arith}
-use borrow.Author.Needs.{needs}
-use lib.ListN.{length, getD}
 use Rattle.curve.specs.Levels.{at, minTo, leastOf}
 use Rattle.curve.proofs.Walks.{least-first, least-kept, least-new}
 use Rattle.curve.proofs.levels.least.Statement.{statement}

@@ -1,12 +1,8 @@
 -- `curve::levels::settle` meets its contract. The invariant: position and shifts make up the start, and every position left was
 -- over the limit. The measure is the position; at 0 nothing is missing. Assumes nothing.
-use mathlib.Core.Path.{_≡_, refl, sym, _∙_, ap, subst}
-use mathlib.Core.Bool.{Bool, true, false}
-use mathlib.Core.Logic.{⊎-elim}
-use Prim.Native.Nat.{ℕ, _+_, _*_, _-_, _≤_, _<_}
+use mathlib.Core.Path.{_≡_}
+use Prim.Native.Nat.{ℕ, _+_, _-_, _≤_, _<_}
 use native.Mathlib.Omega.{arith}
-use borrow.Author.Needs.{needs}
-use lib.ListN.{length, getD}
 use Rattle.curve.specs.Levels.{at, totalAt}
 use Rattle.curve.proofs.Walks.{above-zero, next-over}
 use Rattle.curve.proofs.levels.settle.Statement.{statement}

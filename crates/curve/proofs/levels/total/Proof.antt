@@ -1,11 +1,8 @@
 -- `curve::levels::total` meets its contract. The invariant: the total of the bands passed. Assumes nothing.
-use mathlib.Core.Path.{_≡_, refl, sym, _∙_, ap}
-use mathlib.Core.Bool.{true, false}
+use mathlib.Core.Path.{_≡_, refl, _∙_, ap}
 use mathlib.Core.Logic.{⊎-elim}
-use Prim.Native.Nat.{ℕ, _+_, _*_, _-_, _≤_, _<_}
+use Prim.Native.Nat.{ℕ, _*_, _-_, _≤_}
 use native.Mathlib.Omega.{arith}
-use borrow.Author.Needs.{needs}
-use lib.ListN.{length, getD}
 use Rattle.curve.specs.Levels.{at, totalAt}
 use Rattle.curve.proofs.Walks.{total-none, total-more, total-same, total-most}
 use Rattle.curve.proofs.levels.total.Statement.{statement}

@@ -1,6 +1,6 @@
 -- `energy::steps::reached` meets its contract. The invariant: the entry before `low` is at most s, the entry at `high` above it.
 -- The measure is the stretch between them. Assumes nothing.
-use mathlib.Core.Path.{_≡_, subst, sym}
+use mathlib.Core.Path.{_≡_, subst}
 use Prim.Native.Nat.{ℕ, suc, _-_, _+_, _/_, _≤_, _<_}
 use native.Mathlib.Omega.{arith}
 use lib.ListN.{length, getD}

@@ -1,4 +1,4 @@
-use mathlib.Core.Path.{_≡_, refl, sym, _∙_, ap}
+use mathlib.Core.Path.{_≡_, refl, sym, _∙_}
 use Prim.Native.Nat.{_-_}
 use native.Mathlib.Omega.{arith}
 use lib.ListN.{length}
@@ -6,8 +6,6 @@ use Rattle.line.specs.Blocks.{feedAfter}
 use Rattle.line.proofs.Turns.{feed-here, feed-later, feed-out}
 use Rattle.line.proofs.blocks.feed_after.Statement.{statement}
 use Rattle.line.proofs.blocks.feed_after.Tie as tie
-use Rattle.line.proofs.blocks.feed_after.Reads as reads
-use Rattle.line.proofs.blocks.feed_after.Lts as lts
 
 abbrev Inv-loop : tie.InvT-loop
 Inv-loop s at i₀ i = feedAfter s at ≡ feedAfter s i

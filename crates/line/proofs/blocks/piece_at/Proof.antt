@@ -3,11 +3,6 @@ use Rattle.line.proofs.Turns.{piece-some, piece-feed, piece-long, piece
 use borrow.Author.Needs.{needs}
 use Rattle.line.proofs.blocks.piece_at.Statement.{statement}
 use Rattle.line.proofs.blocks.piece_at.Tie as tie
-use Rattle.line.proofs.blocks.piece_at.Reads as reads
-use Rattle.line.proofs.blocks.piece_at.Lts as lts
-use Rattle.line.proofs.blocks.feed_after.Reads as feed-after-reads
-use Rattle.line.proofs.blocks.unasked.Reads as unasked-reads
-use Rattle.reply.proofs.reply_at.Reads as reply-at-reads
 
 -- src/blocks.rt:65:9
 reply-at-requires : tie.Need-reply-at-requires

@@ -1,15 +1,10 @@
-use mathlib.Core.Path.{_≡_, sym, _∙_, ap, subst}
+use mathlib.Core.Path.{sym, subst}
 use native.Mathlib.Omega.{arith}
 use Rattle.reply.specs.Answers.{Keyed}
 use Rattle.line.proofs.Turns.{piece-good, turn-past, turn-skipped, turn-none, turn-told, turn-full}
 use borrow.Author.Needs.{needs}
 use Rattle.line.proofs.blocks.turn_at.Statement.{statement}
 use Rattle.line.proofs.blocks.turn_at.Tie as tie
-use Rattle.line.proofs.blocks.turn_at.Reads as reads
-use Rattle.line.proofs.blocks.turn_at.Lts as lts
-use Rattle.line.proofs.blocks.feed_after.Reads as feed-after-reads
-use Rattle.line.proofs.blocks.piece_at.Reads as piece-at-reads
-use Rattle.line.proofs.lines.answer_at.Reads as answer-at-reads
 
 -- src/blocks.rt:94:13
 feed-after-requires : tie.Need-feed-after-requires

@@ -1,13 +1,10 @@
-use mathlib.Core.Path.{_≡_, sym, _∙_, ap}
+use mathlib.Core.Path.{sym, _∙_, ap}
 use Prim.Native.Nat.{_-_}
 use native.Mathlib.Omega.{arith}
 use lib.ListN.{length}
 use Rattle.line.proofs.Runs.{Going, going-start, going-length, going-room, going-out, kept, going-still, going-on, turn-ahead}
 use Rattle.line.proofs.blocks.turns.Statement.{statement}
 use Rattle.line.proofs.blocks.turns.Tie as tie
-use Rattle.line.proofs.blocks.turns.Reads as reads
-use Rattle.line.proofs.blocks.turns.Lts as lts
-use Rattle.line.proofs.blocks.turn_at.Reads as turn-at-reads
 
 abbrev Inv-loop : tie.InvT-loop
 Inv-loop input out₀ skipping last powers thresholds starts used₀ wrote₀ skip₀ out used wrote skip = Going input out₀ skipping last used wrote skip out

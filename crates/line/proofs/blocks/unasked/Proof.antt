@@ -2,9 +2,6 @@ use mathlib.Core.Path.{ap}
 use borrow.Author.Needs.{needs}
 use Rattle.line.proofs.blocks.unasked.Statement.{statement}
 use Rattle.line.proofs.blocks.unasked.Tie as tie
-use Rattle.line.proofs.blocks.unasked.Reads as reads
-use Rattle.line.proofs.blocks.unasked.Lts as lts
-use Rattle.reply.proofs.no_reply.Reads as no-reply-reads
 
 -- src/blocks.rt:52:9
 no-reply-requires : tie.Need-no-reply-requires

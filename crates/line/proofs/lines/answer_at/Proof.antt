@@ -1,16 +1,11 @@
-use mathlib.Core.Path.{_≡_, sym, _∙_, ap}
 use Prim.Native.Nat.{_+_, _≤_}
 use native.Mathlib.Omega.{arith}
 use lib.ListN.{length}
 use Rattle.reply.specs.Answers.{replyText}
-use Rattle.line.proofs.Placing.{no-room, room-wrote, room-home, room-length, placed-length}
+use Rattle.line.proofs.Placing.{no-room, room-wrote, room-home}
 use borrow.Author.Needs.{needs}
 use Rattle.line.proofs.lines.answer_at.Statement.{statement}
 use Rattle.line.proofs.lines.answer_at.Tie as tie
-use Rattle.line.proofs.lines.answer_at.Reads as reads
-use Rattle.line.proofs.lines.answer_at.Lts as lts
-use Rattle.line.proofs.lines.put_reply.Reads as put-reply-reads
-use Rattle.line.proofs.lines.reply_len.Reads as reply-len-reads
 
 -- src/lines.rt:58:9
 reply-len-requires : tie.Need-reply-len-requires

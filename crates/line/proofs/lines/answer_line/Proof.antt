@@ -1,12 +1,8 @@
-use mathlib.Core.Path.{_≡_, sym, _∙_, ap}
+use mathlib.Core.Path.{_∙_, ap}
 use Rattle.line.specs.Answers.{wroteOf, placed}
 use borrow.Author.Needs.{needs}
 use Rattle.line.proofs.lines.answer_line.Statement.{statement}
 use Rattle.line.proofs.lines.answer_line.Tie as tie
-use Rattle.line.proofs.lines.answer_line.Reads as reads
-use Rattle.line.proofs.lines.answer_line.Lts as lts
-use Rattle.line.proofs.lines.answer_at.Reads as answer-at-reads
-use Rattle.line.proofs.lines.line_reply.Reads as line-reply-reads
 
 -- src/lines.rt:87:9
 line-reply-requires : tie.Need-line-reply-requires

@@ -1,14 +1,10 @@
-use mathlib.Core.Path.{_≡_, sym, _∙_, ap, subst}
+use mathlib.Core.Path.{sym, _∙_, ap, subst}
 use Rattle.reply.specs.Answers.{replyText, Keyed}
 use Rattle.reply.proofs.Replies.{reply-keyed}
 use Rattle.line.proofs.Placing.{line-whole, line-other, none-keyed}
 use borrow.Author.Needs.{needs}
 use Rattle.line.proofs.lines.line_reply.Statement.{statement}
 use Rattle.line.proofs.lines.line_reply.Tie as tie
-use Rattle.line.proofs.lines.line_reply.Reads as reads
-use Rattle.line.proofs.lines.line_reply.Lts as lts
-use Rattle.reply.proofs.no_reply.Reads as no-reply-reads
-use Rattle.reply.proofs.reply_at.Reads as reply-at-reads
 
 -- src/lines.rt:74:9
 scaled-powers-requires : tie.Need-scaled-powers-requires

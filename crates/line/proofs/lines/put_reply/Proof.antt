@@ -1,21 +1,15 @@
-use mathlib.Core.Path.{_≡_, refl, sym, _∙_, ap}
-use mathlib.Core.List.{List, [], _∷_, _++_}
+use mathlib.Core.Path.{sym, _∙_, ap}
+use mathlib.Core.List.{_∷_, _++_}
 use Prim.Native.Nat.{_+_}
 use native.Mathlib.Omega.{arith}
-use lib.ListN.{length, take, drop, length-set, length-take, length-append}
+use lib.ListN.{length, take, drop}
 use Rattle.answer.specs.Texts.{front, kindText, others, fieldsOf}
-use Rattle.answer.proofs.Fronts.{front-length, front-more, tail-within, tail-length, tail-home, tail-same}
-use Rattle.reply.specs.Answers.{replyText}
+use Rattle.answer.proofs.Fronts.{tail-within, tail-length, tail-home}
 use Rattle.answer.proofs.Writers.{none-length}
 use Rattle.reply.proofs.Replies.{reply-none, reply-some, head-length, reply-length}
 use borrow.Author.Needs.{needs}
 use Rattle.line.proofs.lines.put_reply.Statement.{statement}
 use Rattle.line.proofs.lines.put_reply.Tie as tie
-use Rattle.line.proofs.lines.put_reply.Reads as reads
-use Rattle.line.proofs.lines.put_reply.Lts as lts
-use Rattle.answer.proofs.put_head.Reads as put-head-reads
-use Rattle.answer.proofs.put_none.Reads as put-none-reads
-use Rattle.answer.proofs.put_rated.Reads as put-rated-reads
 
 -- src/lines.rt:41:9
 put-none-requires : tie.Need-put-none-requires

@@ -1,4 +1,4 @@
-use mathlib.Core.Path.{_≡_, sym, _∙_, ap}
+use mathlib.Core.Path.{sym, _∙_, ap}
 use native.Mathlib.Omega.{arith}
 use lib.ListN.{length}
 use Rattle.answer.proofs.Writers.{none-length}
@@ -6,9 +6,6 @@ use Rattle.reply.proofs.Replies.{reply-none, reply-length}
 use borrow.Author.Needs.{needs}
 use Rattle.line.proofs.lines.reply_len.Statement.{statement}
 use Rattle.line.proofs.lines.reply_len.Tie as tie
-use Rattle.line.proofs.lines.reply_len.Reads as reads
-use Rattle.line.proofs.lines.reply_len.Lts as lts
-use Rattle.answer.proofs.rated_len.Reads as rated-len-reads
 
 -- src/lines.rt:28:9
 returns : tie.Need-returns

@@ -1,5 +1,4 @@
 -- `quantity::signed::less` meets its contract: both are below 2 ^ 31, so their difference fits. Assumes nothing.
-use native.Mathlib.Omega.{arith}
 use borrow.Author.Needs.{needs}
 use mir.Facts.{toZ-ofZ}
 use Rattle.quantity.proofs.Rim.{as-pos, less-fits}

@@ -1,10 +1,7 @@
 -- `rating::sheets::marked` meets its contract: the remainder by a power of two holds the marks below. Assumes nothing.
-use mathlib.Core.Path.{_≡_, refl, sym, _∙_, ap, subst}
-use mathlib.Core.Bool.{Bool, true, false}
-use mathlib.Core.Logic.{⊎-elim}
-use Prim.Native.Nat.{ℕ, _+_, _*_, _-_, _≤_, _<_}
+use mathlib.Core.Path.{_≡_, sym, _∙_, ap}
+use Prim.Native.Nat.{ℕ, _-_}
 use native.Mathlib.Omega.{arith}
-use lib.ListN.{length, getD}
 use mathlib.Core.Bool.{not}
 use Prim.Native.Nat.{_%_}
 use lib.Dec.{eqb}

@@ -1,21 +1,12 @@
 -- `rating::sheets::rate` meets its contract: the length is tested first, then the bands. Assumes nothing.
 use borrow.Author.Needs.{needs}
-use mathlib.Core.Path.{_≡_, refl, sym, _∙_, ap, subst}
-use mathlib.Core.Bool.{Bool, true, false}
-use mathlib.Core.Logic.{⊎-elim}
-use Prim.Native.Nat.{ℕ, _+_, _*_, _-_, _≤_, _<_}
-use native.Mathlib.Omega.{arith}
+use mathlib.Core.Path.{sym, _∙_, ap}
+use mathlib.Core.Bool.{true, false}
+use Prim.Native.Nat.{_-_}
 use borrow.Author.Needs.{needs}
-use lib.ListN.{length, getD}
-use mathlib.Core.Path.{ap₂}
-use lib.Dec.{eqb}
-use borrow.Author.Tests.{eq-eqb, ne-eqb, not-true, not-false}
+use borrow.Author.Tests.{not-true, not-false}
 use Rattle.curve.specs.Bands.{accepted}
 use Rattle.curve.proofs.Searched.{count-most}
-use Rattle.rating.specs.declared.kinds.Numbers.{Numbers}
-use Rattle.rating.specs.Kinds.{bandsOf}
-use Rattle.rating.specs.Numbers.{numbersOf}
-use Rattle.rating.specs.Sheets.{ratedOf, sheetOf, asked}
 use Rattle.rating.proofs.Facts.{count-of}
 use Rattle.rating.proofs.Rated.{bands-are, wrong-count, out-of-range, in-order}
 use Rattle.rating.proofs.sheets.rate.Statement.{statement}

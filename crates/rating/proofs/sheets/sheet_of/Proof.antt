@@ -1,14 +1,9 @@
 -- `rating::sheets::sheet_of` meets its contract: what was fetched is sound, and each number of the record is the defined one.
 -- Assumes nothing.
 use borrow.Author.Needs.{needs}
-use mathlib.Core.Path.{_≡_, refl, sym, _∙_, ap, subst}
-use mathlib.Core.Bool.{Bool, true, false}
-use mathlib.Core.Logic.{⊎-elim}
-use Prim.Native.Nat.{ℕ, _+_, _*_, _-_, _≤_, _<_}
-use native.Mathlib.Omega.{arith}
+use mathlib.Core.Path.{refl}
+use Prim.Native.Nat.{_-_, _<_}
 use borrow.Author.Needs.{needs}
-use lib.ListN.{length, getD}
-use Rattle.curve.specs.Levels.{Count}
 use Rattle.rating.proofs.Sheeted.{Fetched, fetched, position-small, given, absent, sheet-made}
 use Rattle.rating.proofs.sheets.sheet_of.Statement.{statement}
 use Rattle.rating.proofs.sheets.sheet_of.Tie as tie

@@ -1,11 +1,7 @@
 -- `rating::sheets::start_of` meets its contract: ten for each of sixteen or five bands. Assumes nothing.
 use borrow.Author.Needs.{needs}
-use mathlib.Core.Path.{_≡_, refl, sym, _∙_, ap, subst}
-use mathlib.Core.Bool.{Bool, true, false}
-use mathlib.Core.Logic.{⊎-elim}
-use Prim.Native.Nat.{ℕ, _+_, _*_, _/_, _-_, _≤_, _<_}
-use native.Mathlib.Omega.{arith}
-use lib.ListN.{length, getD}
+use mathlib.Core.Path.{sym, ap}
+use Prim.Native.Nat.{ℕ, _+_, _*_, _/_, _-_}
 use Rattle.curve.proofs.Searched.{octaves}
 use Rattle.rating.proofs.sheets.start_of.Statement.{statement}
 use Rattle.rating.proofs.sheets.start_of.Tie as tie

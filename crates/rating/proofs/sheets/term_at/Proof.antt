@@ -1,9 +1,7 @@
 -- `rating::sheets::term_at` meets its contract: one difference of naturals for each sign. Assumes nothing.
 use borrow.Author.Needs.{needs}
-use mathlib.Core.Path.{_≡_, sym, _∙_, ap}
+use mathlib.Core.Path.{sym, _∙_, ap}
 use mathlib.Core.Bool.{Bool}
-use Prim.Native.Nat.{_<_}
-use native.Mathlib.Omega.{arith}
 use Rattle.quantity.proofs.Rim.{back}
 use Rattle.rating.specs.Numbers.{termBy}
 use Rattle.rating.proofs.sheets.term_at.Statement.{statement}

@@ -1,14 +1,10 @@
 -- `rating::sheets::term_of` meets its contract: the least is a level, the step below 2 ^ 8, so the term is far within what is
 -- rounded. Assumes nothing.
 use borrow.Author.Needs.{needs}
-use mathlib.Core.Path.{_≡_, refl, sym, _∙_, ap, ap₂, subst}
-use mathlib.Core.Bool.{Bool, true, false}
-use mathlib.Core.Logic.{⊎-elim}
-use Prim.Native.Nat.{ℕ, _+_, _*_, _-_, _≤_, _<_}
+use mathlib.Core.Path.{_∙_, ap, ap₂}
+use Prim.Native.Nat.{ℕ, _-_, _≤_, _<_}
 use native.Mathlib.Omega.{arith}
 use borrow.Author.Needs.{needs}
-use lib.ListN.{length, getD}
-use lib.IntN.{ℤ, pos, negsuc}
 use Rattle.laws.specs.Parts.{P, N}
 use Rattle.laws.proofs.Ints.{ints}
 use Rattle.quantity.specs.Quantities.{halfUp}

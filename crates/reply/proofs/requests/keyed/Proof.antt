@@ -6,12 +6,6 @@ use Rattle.reply.proofs.Replies.{key-none, key-long, bands-broken, band
 use borrow.Author.Needs.{needs}
 use Rattle.reply.proofs.requests.keyed.Statement.{statement}
 use Rattle.reply.proofs.requests.keyed.Tie as tie
-use Rattle.reply.proofs.requests.keyed.Reads as reads
-use Rattle.reply.proofs.requests.keyed.Lts as lts
-use Rattle.request.proofs.bands_at.Reads as bands-at-reads
-use Rattle.reply.proofs.requests.judge.Reads as judge-reads
-use Rattle.request.proofs.key_span.Reads as key-span-reads
-use Rattle.reply.proofs.requests.no_reply.Reads as no-reply-reads
 
 -- src/requests.rt:84:15
 add-key : tie.Need-add-key

@@ -6,12 +6,6 @@ use Rattle.reply.proofs.Replies.{kind-inside, no-kind, no-tab, some-kin
 use borrow.Author.Needs.{needs}
 use Rattle.reply.proofs.requests.reply_at.Statement.{statement}
 use Rattle.reply.proofs.requests.reply_at.Tie as tie
-use Rattle.reply.proofs.requests.reply_at.Reads as reads
-use Rattle.reply.proofs.requests.reply_at.Lts as lts
-use Rattle.request.proofs.byte.Reads as byte-reads
-use Rattle.reply.proofs.requests.keyed.Reads as keyed-reads
-use Rattle.request.proofs.kind_at.Reads as kind-at-reads
-use Rattle.reply.proofs.requests.no_reply.Reads as no-reply-reads
 
 -- src/requests.rt:117:9
 kind-at-requires : tie.Need-kind-at-requires

@@ -1,6 +1,6 @@
 -- `request::bands::any_band_at` meets its contract: a limit value, a missing band, or a level. Assumes nothing.
 use borrow.Author.Needs.{needs}
-use mathlib.Core.Path.{_∙_, sym, ap}
+use mathlib.Core.Path.{_∙_, ap}
 use native.Mathlib.Omega.{arith}
 use Rattle.request.specs.Reading.{digitOf}
 use Rattle.request.proofs.Leaves.{inside-byte}

@@ -1,19 +1,12 @@
-use mathlib.Core.Path.{_≡_, sym, _∙_, ap, subst}
+use mathlib.Core.Path.{sym, _∙_}
 use mathlib.Core.Logic.{⊎-elim}
 use Prim.Native.Nat.{_-_}
 use native.Mathlib.Omega.{arith}
 use lib.ListN.{length}
 use Rattle.request.proofs.Leaves.{inside-byte}
-use Rattle.request.proofs.Gathers.{Gathering, gather-start, further, turn-few, turn-many, again-few, again-many, weight-at-most, out-broken, out-none, out-end}
+use Rattle.request.proofs.Gathers.{Gathering, gather-start, further, again-few, again-many, weight-at-most, out-broken, out-none, out-end}
 use Rattle.request.proofs.bands.bands_at.Statement.{statement}
 use Rattle.request.proofs.bands.bands_at.Tie as tie
-use Rattle.request.proofs.bands.bands_at.Reads as reads
-use Rattle.request.proofs.bands.bands_at.Lts as lts
-use Rattle.request.proofs.bands.band_at.Reads as band-at-reads
-use Rattle.request.proofs.bands.broken.Reads as broken-reads
-use Rattle.request.proofs.bands.first_of.Reads as first-of-reads
-use Rattle.request.proofs.bands.weight_of.Reads as weight-of-reads
-use Rattle.request.proofs.bytes.byte.Reads as byte-reads
 
 abbrev Inv-loop : tie.InvT-loop
 Inv-loop s start values₀ marks₀ weight₀ count₀ fault₀ at₀ values marks weight count fault at = Gathering s start values marks weight count fault at

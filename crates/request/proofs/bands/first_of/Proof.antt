@@ -1,6 +1,4 @@
 -- `line::bands::first_of` meets its contract: a fault that is not 0 stays. Assumes nothing.
-use borrow.Author.Needs.{needs}
-use mathlib.Core.Path.{sym}
 use Rattle.request.proofs.Readers.{or-none, or-some}
 use Rattle.request.proofs.bands.first_of.Statement.{statement}
 use Rattle.request.proofs.bands.first_of.Tie as tie

@@ -1,6 +1,5 @@
 -- `line::bands::level_at` meets its contract: with a minus, or without. Assumes nothing.
 use borrow.Author.Needs.{needs}
-use mathlib.Core.Path.{_∙_, sym, ap}
 use Prim.Native.Nat.{_+_}
 use native.Mathlib.Omega.{arith}
 use Rattle.request.proofs.Leaves.{inside-byte}

@@ -1,6 +1,6 @@
 -- `request::bands::short_at` meets its contract: one or two digits before the point, or nothing is said. Assumes nothing.
 use mathlib.Core.Path.{_∙_, sym, refl}
-use Prim.Native.Nat.{ℕ, _+_, _*_, _-_, _≤_}
+use Prim.Native.Nat.{_+_, _*_, _-_, _≤_}
 use native.Mathlib.Omega.{arith}
 use borrow.Author.Tests.{not-false}
 use Rattle.request.specs.Reading.{byteAt}

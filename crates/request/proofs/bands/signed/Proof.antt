@@ -1,12 +1,12 @@
 -- `line::bands::signed` meets its contract: each sign by itself, and -0.0 is nothing. Assumes nothing.
 use borrow.Author.Needs.{needs}
-use mathlib.Core.Path.{_∙_, sym, ap, subst}
+use mathlib.Core.Path.{_∙_, sym, ap}
 use native.Mathlib.Omega.{arith}
 use mir.Syntax.{w32}
 use mir.Val.{toZ, ofZ}
 use borrow.Author.Tests.{not-true, not-false}
 use Rattle.quantity.proofs.Rim.{back}
-use Rattle.request.specs.Gathering.{fieldOf, Small}
+use Rattle.request.specs.Gathering.{fieldOf}
 use Rattle.request.specs.Reading.{signedBy}
 use Rattle.request.proofs.Readers.{small-read, signed-plus, signed-zero, signed-minus}
 use Rattle.request.proofs.bands.signed.Statement.{statement}

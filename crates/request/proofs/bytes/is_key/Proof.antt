@@ -1,5 +1,4 @@
 -- `line::bytes::is_key` meets its contract: the tests go up through the bytes. Assumes nothing.
-use native.Mathlib.Omega.{arith}
 use Rattle.request.proofs.Leaves.{key-hyphen, key-low, key-digit, key-middle, key-capital, key-between, key-small}
 use Rattle.request.proofs.bytes.is_key.Statement.{statement}
 use Rattle.request.proofs.bytes.is_key.Tie as tie

@@ -4,7 +4,6 @@ use mathlib.Core.Path.{_≡_, sym, _∙_, ap}
 use Prim.Native.Nat.{_+_, _-_, _≤_}
 use native.Mathlib.Omega.{arith}
 use mathlib.Core.Bool.{true, false}
-use borrow.Author.Needs.{needs}
 use lib.ListN.{length, drop}
 use Rattle.request.specs.Texts.{keyByte}
 use Rattle.request.specs.Reading.{byteAt, keySpan}
