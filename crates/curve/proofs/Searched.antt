@@ -29,9 +29,6 @@ count-most c = ⊎-elim (λ e. omega arith) (λ e. omega arith) c
 pub count-some : {n : ℕ} → Count n → 1 ≤ n
 count-some c = ⊎-elim (λ e. omega arith) (λ e. omega arith) c
 
-pub octaves : {n : ℕ} → Count n → (n ≡ 16 → ⊥) → n ≡ 5
-octaves c f = ⊎-elim (λ e. absurd (f e)) (λ e. e) c
-
 -- a band of an accepted set is in range
 pub band-in : (s : BandSet) (n : ℕ) → accepted s n ≡ true → (i : ℕ) → i < n → inRange (bandOf s i) ≡ true
 unfolding accepted

@@ -1,4 +1,5 @@
 // The shared rating over levels: sums, the search for the accepted position, and the sum of energies.
+use crate::positions::Position;
 use quantity::BandSet;
 use quantity::Tenths;
 use quantity::signed::above;
@@ -15,8 +16,8 @@ ghost use Rattle.curve.specs.Levels.{levelBy, Levels, at, totalAt, least
 ghost use Rattle.curve.specs.Levels.{Entries};
 
 // Where the search ended, and how many shifts it made.
-pub struct Position {
-    pub at: u32,
+pub struct Accepted {
+    pub at: Position,
     pub shifts: u32,
 }
 
@@ -83,12 +84,12 @@ pub fn sum(levels: &[u32; 16], bands: usize) -> u32
 }
 
 // The total of the deficits at position p.
-pub fn total(levels: &[u32; 16], bands: usize, p: u32) -> u32
+pub fn total(levels: &[u32; 16], bands: usize, p: Position) -> u32
     requires { ⌜ bands ≤ 16 ⌝ }
-    requires { ⌜ p < 500 ⌝ }
-    ensures { λ r. ⌜ r ≡ totalAt (at (now (levels .entry))) bands p ⌝ }
+    requires { ⌜ p .0 < 500 ⌝ }
+    ensures { λ r. ⌜ r ≡ totalAt (at (now (levels .entry))) bands (p .0) ⌝ }
 {
-    let height = 10 * p;
+    let height = p.tenths();
     let mut total = 0;
     let mut i = 0;
     while i < bands {
@@ -101,18 +102,18 @@ pub fn total(levels: &[u32; 16], bands: usize, p: u32) -> u32
 }
 
 // From the start, position by position, to the first whose total is within the limit. At position 0 the total is 0.
-pub fn settle(levels: &[u32; 16], bands: usize, limit: u32, start: u32) -> Position
+pub fn settle(levels: &[u32; 16], bands: usize, limit: u32, start: Position) -> Accepted
     requires { ⌜ bands ≤ 16 ⌝ }
-    requires { ⌜ start < 500 ⌝ }
-    ensures { λ r. ⌜ Settled (at (now (levels .entry))) bands limit start (r .at) (r .shifts) ⌝ }
+    requires { ⌜ start .0 < 500 ⌝ }
+    ensures { λ r. ⌜ Settled (at (now (levels .entry))) bands limit (start .0) (r .at .0) (r .shifts) ⌝ }
 {
     let mut p = start;
     let mut shifts = 0;
     while limit < total(levels, bands, p) {
-        p -= 1;
+        p = p.eased();
         shifts += 1;
     }
-    Position { at: p, shifts }
+    Accepted { at: p, shifts }
 }
 
 // The least level.

@@ -4,3 +4,6 @@
 // A level counts a band's value so that both signs are one theory; of the kinds nothing is known here. Each walk is proved
 // equal to its definition in `specs/`, for every count of bands up to sixteen and every value in range.
 pub mod levels;
+mod positions;
+
+pub use positions::Position;

@@ -6,7 +6,7 @@ use quantity::BandSet;
 use quantity::Reading;
 use rating::Kind;
 use rating::Rated;
-use rating::numbers_of;
+use rating::bands_of;
 ghost use mathlib.Core.Path.{_≡_};
 ghost use Rattle.desk.specs.Quantities.{takenOf};
 ghost use Rattle.desk.specs.Calls.{ratedOf, readingsRated};
@@ -29,8 +29,7 @@ pub fn rate(kind: Kind, set: BandSet) -> Rated
 pub fn rate_readings(kind: Kind, readings: [Reading; 48], len: usize) -> Rated
     ensures { λ r. ⌜ r ≡ readingsRated kind readings len ⌝ }
 {
-    let numbers = numbers_of(kind);
-    let list = take_list(readings, len, numbers.bands);
+    let list = take_list(readings, len, bands_of(kind));
     let outcome = list.outcome;
     match outcome {
         Outcome::Refused(refusal) => Rated::Refused(refusal),

@@ -133,11 +133,11 @@ pub record Worked (k : Kind) (s : BandSet) (t : ℤ) (gains : List ℕ) (sum lim
 
 module _ (k : Kind) (s : BandSet) (acc : accepted s (bandsOf k) ≡ true) (t : ℤ) (range : inTargets t ≡ true)
     (good : betterBy (airborne k) t (ratingOf k (bandOf s)) ≡ true) (n : Numbers) (e : n ≡ numbersOf k) where
-  pub asks-count : Countable (n .airborne) t (n .origin)
+  pub asks-count : Countable (n .airborne) t (n .origin .0)
   unfolding numbersOf
-  asks-count = subst (λ (m : Numbers). Countable (m .airborne) t (m .origin)) (sym e) (can-count k s acc t range good)
+  asks-count = subst (λ (m : Numbers). Countable (m .airborne) t (m .origin .0)) (sym e) (can-count k s acc t range good)
 
-  pub asks-gains : (p : ℕ) → p ≡ levelBy (n .airborne) t (n .origin)
+  pub asks-gains : (p : ℕ) → p ≡ levelBy (n .airborne) t (n .origin .0)
       → (n .bands ≤ 16) × ((accepted s (n .bands) ≡ true) × (((i : ℕ) → i < 16 → Entries (n .airborne) (at (n .entries) i)) × (p < 500)))
   unfolding numbersOf
   asks-gains p d =
@@ -149,16 +149,16 @@ module _ (k : Kind) (s : BandSet) (acc : accepted s (bandsOf k) ≡ true) (t : �
           acc,
           (
             entries-fit k,
-            subst (λ (v : ℕ). v < 500) (sym (d ∙ ap (λ (m : Numbers). levelBy (m .airborne) t (m .origin)) e)) (position-small k s acc t range good),
+            subst (λ (v : ℕ). v < 500) (sym (d ∙ ap (λ (m : Numbers). levelBy (m .airborne) t (m .origin .0)) e)) (position-small k s acc t range good),
           ),
         ),
       )
 
-  pub worked : (p room : ℕ) (gains : List ℕ) (sum : ℕ) → p ≡ levelBy (n .airborne) t (n .origin) → placesOf k ≤ room
+  pub worked : (p room : ℕ) (gains : List ℕ) (sum : ℕ) → p ≡ levelBy (n .airborne) t (n .origin .0) → placesOf k ≤ room
       → Gained (n .airborne) s (n .entries) (n .bands) p gains sum → Worked k s t gains sum (n .limit) room
   unfolding numbersOf
   worked p room gains sum d h g =
-      let at-p : p ≡ levelBy (airborne k) t (ratingAt k) = d ∙ ap (λ (m : Numbers). levelBy (m .airborne) t (m .origin)) e in
+      let at-p : p ≡ levelBy (airborne k) t (ratingAt k) = d ∙ ap (λ (m : Numbers). levelBy (m .airborne) t (m .origin .0)) e in
       let w : Gained (airborne k) s (entriesOf k) (bandsOf k) (levelBy (airborne k) t (ratingAt k)) gains sum =
       subst (λ (v : ℕ). Gained (airborne k) s (entriesOf k) (bandsOf k) v gains sum) at-p
       (subst (λ (m : Numbers). Gained (m .airborne) s (m .entries) (m .bands) p gains sum) e g) in

@@ -2,13 +2,17 @@
 use quantity::BandSet;
 use quantity::Decibels;
 use quantity::Refusal;
+use rating::A1Kind;
+use rating::A3Kind;
+use rating::I1Kind;
+use rating::I3Kind;
 use rating::Kind;
 use rating::Rated;
 use rating::numbers_of;
 use rating::rate;
-use sets::counted;
 use sets::gains_at;
 use sets::mask_at;
+use sets::position_at;
 ghost use mathlib.Core.Path.{_≡_};
 ghost use mathlib.Core.Bool.{true};
 ghost use Prim.Native.Nat.{ℕ, _+_, _*_, _-_, _≤_, _<_, min};
@@ -115,10 +119,10 @@ fn places(kind: Kind) -> usize
     ensures { λ r. ⌜ r ≡ placesOf kind ⌝ }
 {
     match kind {
-        Kind::A3 => 696,
-        Kind::A1 => 25,
-        Kind::I3 => 696,
-        Kind::I1 => 25,
+        Kind::A3 => A3Kind::SETS,
+        Kind::A1 => A1Kind::SETS,
+        Kind::I3 => I3Kind::SETS,
+        Kind::I1 => I1Kind::SETS,
     }
 }
 
@@ -133,7 +137,8 @@ fn list(kind: Kind, set: BandSet, target: Decibels, out: &mut [u16]) -> usize
 {
     let n = numbers_of(kind);
     // a better target is stricter than position 0, at which nothing is missing
-    let p = counted(target.0, n.airborne, n.origin);
+    let origin = n.origin;
+    let p = position_at(target, n.airborne, origin);
     let entries = n.entries;
     let gains = gains_at(set, n.bands, n.airborne, entries, p);
     let each = gains.each;

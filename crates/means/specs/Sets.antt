@@ -17,6 +17,8 @@ use Rattle.measurement.specs.declared.lists.Readings.{Readings}
 use Rattle.measurement.specs.declared.lists.Intake.{Intake}
 use Rattle.measurement.specs.Lists.{weightOf, listed, nought, allOf, refusedList}
 use Rattle.curve.specs.Bands.{accepted, bit}
+use Rattle.rating.specs.declared.kinds.Kind.the-variants.{A3, A1}
+use Rattle.rating.specs.Kinds.{bandsOf}
 use Rattle.rooms.specs.Background.{tenths}
 use Rattle.means.specs.Means.{meanOf₃}
 
@@ -46,8 +48,8 @@ meansOf x marks n step stride = record {
 -- "the mean of bands 1 to 3, 4 to 6, and so on to 13 to 15. The last third is not used."
 unfoldable pub octavesOf : BandSet → Intake
 octavesOf s =
-    cond (eqb (s .len) 16)
-    (cond (accepted s 16) (record { outcome = Accepted; set = meansOf (bandOf s) (s .marks) 5 3 1 }) (refusedList BandRange))
+    cond (eqb (s .len) (bandsOf A3))
+    (cond (accepted s (bandsOf A3)) (record { outcome = Accepted; set = meansOf (bandOf s) (s .marks) (bandsOf A1) 3 1 }) (refusedList BandRange))
     (refusedList BandCount)
 
 -- the value at a place of a list
@@ -56,7 +58,7 @@ placed values i = getD values i nought .0
 
 -- "48 readings, specimen after specimen, each from its lowest band": band j of the three is at j, j + 16 and j + 32
 abbrev pub specimensBy : Readings → Outcome → Intake
-specimensBy r Accepted = record { outcome = Accepted; set = meansOf (placed (r .values)) (r .marks) 16 1 16 }
+specimensBy r Accepted = record { outcome = Accepted; set = meansOf (placed (r .values)) (r .marks) (bandsOf A3) 1 (bandsOf A3) }
 specimensBy r (Refused n) = refusedList n
 
 unfoldable pub specimensOf : List Reading → ℕ → Intake

@@ -11,6 +11,8 @@ use quantity::Refusal;
 use quantity::Tenths;
 use quantity::signed::above;
 use quantity::signed::less;
+use rating::A1Kind;
+use rating::A3Kind;
 ghost use mathlib.Core.Path.{_≡_};
 ghost use mathlib.Core.Bool.{true};
 ghost use Prim.Native.Nat.{ℕ, _+_, _*_, _≤_, _<_};
@@ -21,6 +23,9 @@ ghost use Rattle.measurement.specs.Lists.{weightOf, refusedList, nought};
 ghost use Rattle.curve.specs.Bands.{bit};
 ghost use Rattle.means.specs.Means.{meanOf₃};
 ghost use Rattle.means.specs.Sets.{marked₃, placed, meansOf, octavesOf, specimensOf};
+
+// The readings of three specimens.
+const READINGS: usize = 3 * A3Kind::BANDS;
 
 // The mean of three band values, each counted from -20.0 dB.
 fn mean(x: Tenths, y: Tenths, z: Tenths, powers: &[u32; 901]) -> Tenths
@@ -130,16 +135,16 @@ fn refused(refusal: Refusal) -> Intake
 pub fn octaves(set: BandSet) -> Intake
     ensures { λ r. ⌜ r ≡ octavesOf set ⌝ }
 {
-    if set.len != 16 {
+    if set.len != A3Kind::BANDS {
         return refused(Refusal::BandCount);
     }
-    if !all_in_range(set, 16) {
+    if !all_in_range(set, A3Kind::BANDS) {
         return refused(Refusal::BandRange);
     }
     let thirds = set.values;
     let values = widened(thirds);
     let powers = scaled_powers();
-    let means = means(values, set.marks as u64, 5, 3, 1, &powers);
+    let means = means(values, set.marks as u64, A1Kind::BANDS, 3, 1, &powers);
     Intake {
         outcome: Outcome::Accepted,
         set: means,
@@ -151,17 +156,17 @@ pub fn octaves(set: BandSet) -> Intake
 pub fn specimens(readings: [Reading; 48], len: usize) -> Intake
     ensures { λ r. ⌜ r ≡ specimensOf readings len ⌝ }
 {
-    if len != 48 {
+    if len != READINGS {
         return refused(Refusal::SpecimenCount);
     }
-    let all = take_all(readings, 48);
+    let all = take_all(readings, READINGS);
     let outcome = all.outcome;
     match outcome {
         Outcome::Refused(refusal) => refused(refusal),
         Outcome::Accepted => {
             let values = all.values;
             let powers = scaled_powers();
-            let means = means(values, all.marks, 16, 1, 16, &powers);
+            let means = means(values, all.marks, A3Kind::BANDS, 1, A3Kind::BANDS, &powers);
             Intake {
                 outcome: Outcome::Accepted,
                 set: means,

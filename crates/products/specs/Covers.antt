@@ -14,6 +14,7 @@ use Rattle.rating.specs.declared.kinds.Kind.the-variants.{I3}
 use Rattle.rating.specs.declared.sheets.Sheet.{Sheet}
 use Rattle.rating.specs.declared.sheets.Rated.{Rated}
 use Rattle.rating.specs.declared.sheets.Rated.the-variants as rated
+use Rattle.rating.specs.Kinds.{bandsOf}
 use Rattle.rating.specs.Sheets.{ratedOf, decibels}
 use Rattle.rooms.specs.Background.{tenths}
 use Rattle.products.specs.declared.covers.Cover.{Cover}
@@ -31,7 +32,7 @@ unfoldable pub derivedSet : BandSet → BandSet
 derivedSet s = record {
   values = listed (λ i. tenths (floorAt i -ℤ bandOf s i)) 16 0;
   marks = s .marks;
-  len = 16;
+  len = bandsOf I3;
 }
 
 -- "Improvement rating = 78 - derived rating; its term = -(impact term + 10), the impact term rounded first"
@@ -40,10 +41,10 @@ improvementOf sheet mark = Improvement (decibels (pos 78 -ℤ sheet .rating .0))
 
 -- with "the mark of their bands"; a derived level out of range is 6
 abbrev pub coverBy : BandSet → Rated → Cover
-coverBy s (rated.Rating sheet) = improvementOf sheet (limited s 16)
+coverBy s (rated.Rating sheet) = improvementOf sheet (limited s (bandsOf I3))
 coverBy s (rated.Refused r) = Refused DerivedRange
 
 -- the refusals of a band list, then "covers test 6 after all 4s"
 unfoldable pub coverOf : BandSet → Cover
 coverOf s =
-    cond (eqb (s .len) 16) (cond (accepted s 16) (coverBy s (ratedOf I3 (derivedSet s))) (Refused BandRange)) (Refused BandCount)
+    cond (eqb (s .len) (bandsOf I3)) (cond (accepted s (bandsOf I3)) (coverBy s (ratedOf I3 (derivedSet s))) (Refused BandRange)) (Refused BandCount)

@@ -6,6 +6,7 @@ use quantity::Refusal;
 use quantity::Tenths;
 use quantity::signed::above;
 use quantity::signed::less;
+use rating::I3Kind;
 use rating::Kind;
 use rating::Rated;
 use rating::Sheet;
@@ -16,6 +17,7 @@ ghost use Prim.Native.Nat.{_<_};
 ghost use lib.IntN.{_-ℤ_};
 ghost use Rattle.quantity.specs.Quantities.{inRange};
 ghost use Rattle.curve.specs.Bands.{accepted};
+ghost use Rattle.rating.specs.Kinds.{bandsOf};
 ghost use Rattle.products.specs.Bounds.{SmallSheet};
 ghost use Rattle.products.specs.Covers.{floorAt, derivedSet, improvementOf, coverOf};
 
@@ -56,12 +58,12 @@ fn derived(i: usize, improvement: Tenths) -> Tenths
 
 // The reference floor under the cover.
 fn derived_set(set: BandSet) -> BandSet
-    requires { ⌜ accepted set 16 ≡ true ⌝ }
+    requires { ⌜ accepted set (bandsOf Kind.I3) ≡ true ⌝ }
     ensures { λ r. ⌜ r ≡ derivedSet set ⌝ }
 {
     let mut values = [Tenths(0); 16];
     let mut i = 0;
-    while i < 16 {
+    while i < I3Kind::BANDS {
         let improvement = set.values[i];
         let level = derived(i, improvement);
         values[i] = level;
@@ -70,7 +72,7 @@ fn derived_set(set: BandSet) -> BandSet
     BandSet {
         values,
         marks: set.marks,
-        len: 16,
+        len: I3Kind::BANDS,
     }
 }
 
@@ -92,10 +94,10 @@ fn improvement(sheet: Sheet) -> Cover
 pub fn cover_of(set: BandSet) -> Cover
     ensures { λ r. ⌜ r ≡ coverOf set ⌝ }
 {
-    if set.len != 16 {
+    if set.len != I3Kind::BANDS {
         return Cover::Refused(Refusal::BandCount);
     }
-    if !all_in_range(set, 16) {
+    if !all_in_range(set, I3Kind::BANDS) {
         return Cover::Refused(Refusal::BandRange);
     }
     let floor = derived_set(set);

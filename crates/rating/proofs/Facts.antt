@@ -63,7 +63,7 @@ add-small A1 = lit< tt
 add-small I3 = lit< tt
 add-small I1 = lit< tt
 
-origin-near : (k : Kind) → numbersOf k .origin < 200
+origin-near : (k : Kind) → numbersOf k .origin .0 < 200
 unfolding numbersOf
 origin-near A3 = lit< tt
 origin-near A1 = lit< tt
@@ -74,7 +74,6 @@ pub sound-of : (k : Kind) → Sound (numbersOf k)
 unfolding numbersOf
 sound-of k = record {
   count = count-of k;
-  small = add-small k;
   near = origin-near k;
   entries = entries-fit k;
   first = first-fit k;

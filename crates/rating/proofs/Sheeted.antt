@@ -12,7 +12,7 @@ use Rattle.quantity.specs.Quantities.{halfUp, bandOf}
 use Rattle.quantity.specs.declared.quantities.BandSet.{BandSet}
 use Rattle.quantity.specs.declared.quantities.Decibels.{Decibels}
 use Rattle.curve.specs.Bands.{accepted, limited, anyTo, bit}
-use Rattle.curve.specs.Levels.{at, levelAt, Entries}
+use Rattle.curve.specs.Levels.{at, levelAt, startAt, Entries, Settled}
 use Rattle.curve.proofs.Counted.{PartsOf, counted, level-parts, Up}
 use Rattle.curve.proofs.Searched.{band-in, count-most, count-some}
 use Rattle.rating.specs.declared.kinds.Kind.{Kind}
@@ -24,7 +24,7 @@ use Rattle.rating.specs.Kinds.{airborne, bandsOf, C, Ctr}
 use Rattle.rating.specs.Curve.{ratingOf, shiftsOf}
 use Rattle.rating.specs.Terms.{airborneTerm}
 use Rattle.rating.specs.Sheets.{decibels, firstBy, secondBy, sheetOf}
-use Rattle.rating.specs.Numbers.{weightBy, firstOf, secondOf, numbersOf, Sound, Sought, ratingAt, ratingBy, termOf}
+use Rattle.rating.specs.Numbers.{weightBy, firstOf, secondOf, startAdd, numbersOf, Sound, Sought, ratingAt, ratingBy, termOf}
 use Rattle.rating.proofs.Bridge.{listed-is}
 use Rattle.rating.proofs.Facts.{count-of, first-fit, second-fit, sound-of}
 use Rattle.rating.proofs.Meaning.{rating-is, shifts-is, start-below}
@@ -121,26 +121,26 @@ pub fetched : (k : Kind) (s : BandSet) (m : Numbers) → m ≡ numbersOf k → a
 unfolding numbersOf
 fetched k s m e acc = subst (Fetched s) (sym e) (record { sound = sound-of k; acc = acc })
 
-pub position-small : (k : Kind) (s : BandSet) (m : Numbers) (p shifts : ℕ) → m ≡ numbersOf k → accepted s (bandsOf k) ≡ true
-    → Sought m s p shifts → p < 500
+pub sought-by : (k : Kind) (s : BandSet) (m : Numbers) (p shifts : ℕ) → m ≡ numbersOf k
+    → Settled (levelAt (m .airborne) s (m .entries)) (m .bands) (m .limit) (startAt (levelAt (m .airborne) s (m .entries)) (m .bands) (startAdd k)) p shifts
+    → Sought k s p shifts
 unfolding numbersOf
-position-small k s m p shifts e acc w =
-    let v : Sought (numbersOf k) s p shifts = subst (λ (q : Numbers). Sought q s p shifts) e w in
-    omega (arith, start-below k s acc, v .distance)
+sought-by k s m p shifts e w =
+    subst (λ (q : Numbers). Settled (levelAt (q .airborne) s (q .entries)) (q .bands) (q .limit) (startAt (levelAt (q .airborne) s (q .entries)) (q .bands) (startAdd k)) p shifts) e w
+
+pub position-small : (k : Kind) (s : BandSet) (p shifts : ℕ) → accepted s (bandsOf k) ≡ true → Sought k s p shifts → p < 500
+position-small k s p shifts acc w = omega (arith, start-below k s acc, w .distance)
 
 -- the second term: given for airborne, absent for impact
 pub data SecondAt (m : Numbers) (s : BandSet) (p : ℕ) : Term → Type 0 where
-  given : (d : Decibels) → m .airborne ≡ true → d .0 ≡ halfUp (termOf (m .airborne) (m .origin) (levelAt (m .airborne) s (m .second)) (m .bands) p)
+  given : (d : Decibels) → m .airborne ≡ true → d .0 ≡ halfUp (termOf (m .airborne) (m .origin .0) (levelAt (m .airborne) s (m .second)) (m .bands) p)
       → SecondAt m s p (Given d)
   absent : m .airborne ≡ false → SecondAt m s p Absent
 
-pub record MadeAt (s : BandSet) (p shifts : ℕ) (r : Sheet) (m : Numbers) : Type 0 where
-  pub search : Sought m s p shifts
-  pub rating : r .rating .0 ≡ ratingBy (m .airborne) (m .origin) p
-  pub first : r .first .0 ≡ halfUp (termOf (m .airborne) (m .origin) (levelAt (m .airborne) s (m .first)) (m .bands) p)
+pub record MadeAt (s : BandSet) (p : ℕ) (r : Sheet) (m : Numbers) : Type 0 where
+  pub rating : r .rating .0 ≡ ratingBy (m .airborne) (m .origin .0) p
+  pub first : r .first .0 ≡ halfUp (termOf (m .airborne) (m .origin .0) (levelAt (m .airborne) s (m .first)) (m .bands) p)
   pub second : SecondAt m s p (r .second)
-  pub shift : r .shifts ≡ shifts
-  pub limit : r .limit ≡ anyTo (bit (s .marks)) (m .bands)
 
 second-is : (k : Kind) (s : BandSet) → accepted s (bandsOf k) ≡ true → (p : ℕ) → ratingOf k (bandOf s) ≡ ratingBy (airborne k) (ratingAt k) p
     → (t : Term) → SecondAt (numbersOf k) s p t → t ≡ secondBy (airborne k) k (bandOf s)
@@ -148,11 +148,11 @@ unfolding numbersOf
 second-is k s acc p r t (given d e h) = ap (λ (z : ℤ). Given (decibels z)) h ∙ second-given k s acc p r e
 second-is k s acc p r t (absent e) = second-absent k s acc p r e
 
-pub sheet-made : (k : Kind) (s : BandSet) → accepted s (bandsOf k) ≡ true → (m : Numbers) → m ≡ numbersOf k → (p shifts : ℕ) (r : Sheet)
-    → MadeAt s p shifts r m → r ≡ sheetOf k s
+pub sheet-made : (k : Kind) (s : BandSet) → accepted s (bandsOf k) ≡ true → (m : Numbers) → m ≡ numbersOf k → (p : ℕ) (r : Sheet)
+    → Sought k s p (r .shifts) → r .limit ≡ anyTo (bit (s .marks)) (bandsOf k) → MadeAt s p r m → r ≡ sheetOf k s
 unfolding numbersOf
-sheet-made k s acc m e p shifts r w =
-    let v : MadeAt s p shifts r (numbersOf k) = subst (MadeAt s p shifts r) e w in
-    let q : ratingOf k (bandOf s) ≡ ratingBy (airborne k) (ratingAt k) p = rating-is k s acc p shifts (v .search) in
+sheet-made k s acc m e p r found limit w =
+    let v : MadeAt s p r (numbersOf k) = subst (MadeAt s p r) e w in
+    let q : ratingOf k (bandOf s) ≡ ratingBy (airborne k) (ratingAt k) p = rating-is k s acc p (r .shifts) found in
     sheet-is k s acc r (v .rating ∙ sym q) (v .first ∙ first-is k s acc p q) (second-is k s acc p q (r .second) (v .second))
-    (v .shift ∙ sym (shifts-is k s acc p shifts (v .search))) (v .limit)
+    (sym (shifts-is k s acc p (r .shifts) found)) limit

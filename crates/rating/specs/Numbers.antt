@@ -56,8 +56,7 @@ unfoldable pub numbersOf : Kind → Numbers
 numbersOf k = record {
   bands = bandsOf k;
   limit = limitOf k;
-  start = startAdd k;
-  origin = ratingAt k;
+  origin = record { 0 = ratingAt k };
   airborne = airborne k;
   entries = entriesOf k;
   first = firstOf k;
@@ -67,17 +66,16 @@ numbersOf k = record {
 -- numbers that a kind may have: none of its levels is below 0, and all sums stay small
 pub record Sound (n : Numbers) : Type 0 where
   pub count : Count (n .bands)
-  pub small : n .start < 2000
-  pub near : n .origin < 200
+  pub near : n .origin .0 < 200
   pub entries : (i : ℕ) → i < 16 → Entries (n .airborne) (at (n .entries) i)
   pub first : (i : ℕ) → i < 16 → Entries (n .airborne) (at (n .first) i)
   pub second : (i : ℕ) → i < 16 → Entries (n .airborne) (at (n .second) i)
 
 -- what the search finds, by the numbers of a kind
-abbrev pub Sought : Numbers → BandSet → ℕ → ℕ → Type 0
-Sought n s p shifts =
-    Settled (levelAt (n .airborne) s (n .entries)) (n .bands) (n .limit)
-    (startAt (levelAt (n .airborne) s (n .entries)) (n .bands) (n .start)) p shifts
+abbrev pub Sought : Kind → BandSet → ℕ → ℕ → Type 0
+Sought k s p shifts =
+    Settled (levelAt (airborne k) s (entriesOf k)) (bandsOf k) (limitOf k)
+    (startAt (levelAt (airborne k) s (entriesOf k)) (bandsOf k) (startAdd k)) p shifts
 
 -- the least level of a set and the tenths that all its energies stand above it
 pub record WeighedOf (f : ℕ → ℕ) (n least step : ℕ) : Type 0 where

@@ -1,10 +1,19 @@
-// The four kinds. Each is a type that owns its band count, its sum limit and its reference entries.
+// The four kinds. Each is a type that owns its band count, its sum limit and its reference entries, and what follows from these:
+// - TENS, ten for each band: a sum of tenths over this is a mean in whole decibels;
+// - MARKS, the number of ways to mark its bands: marks by this leave the marks of other bands out;
+// - SETS, the number of sets of one to three of its n bands, n (n n + 5) / 6;
+// - START, what is added to the sum of the levels, so that over TENS it is the start of the curve method;
+// - ORIGIN, the position that rates 0 dB.
 //
 // An entry is what a band's value is counted from, so that a better band has a greater level and both signs are one theory:
 // for airborne a level is the value and an entry (24 dB less K), for impact an entry less the value (168 dB and K). A deficit
 // at position p is then 10 p less the level, and position p is p - 24 dB for airborne, 168 - p dB for impact.
+use curve::Position;
 ghost use mathlib.Core.Path.{_≡_};
-ghost use Rattle.rating.specs.Numbers.{entriesOf, firstOf, secondOf, numbersOf};
+ghost use Prim.Native.Nat.{_+_, _*_, _/_, _<_};
+ghost use Rattle.curve.specs.Bands.{anyTo, bit};
+ghost use Rattle.rating.specs.Kinds.{bandsOf};
+ghost use Rattle.rating.specs.Numbers.{startAdd, entriesOf, firstOf, secondOf, numbersOf};
 
 pub enum Kind {
     A3,
@@ -17,10 +26,7 @@ pub enum Kind {
 pub struct Numbers {
     pub bands: usize,
     pub limit: u32,
-    // added to the sum of the levels before the division that gives the start
-    pub start: u32,
-    // the position that rates 0 dB
-    pub origin: u32,
+    pub origin: Position,
     pub airborne: bool,
     pub entries: [u32; 16],
     pub first: [u32; 16],
@@ -34,6 +40,16 @@ impl A3Kind {
     pub const BANDS: usize = 16;
 
     pub const LIMIT: u32 = 320;
+
+    pub const TENS: u32 = 10 * A3Kind::BANDS as u32;
+
+    pub const MARKS: u32 = 1 << A3Kind::BANDS;
+
+    pub const SETS: usize = A3Kind::BANDS * (A3Kind::BANDS * A3Kind::BANDS + 5) / 6;
+
+    pub const START: u32 = 519;
+
+    pub const ORIGIN: u32 = 24;
 
     // The reference curve.
     pub fn reference() -> [u32; 16]
@@ -113,8 +129,7 @@ impl A3Kind {
         Numbers {
             bands: A3Kind::BANDS,
             limit: A3Kind::LIMIT,
-            start: 519,
-            origin: 24,
+            origin: Position(A3Kind::ORIGIN),
             airborne: true,
             entries: A3Kind::reference(),
             first: A3Kind::spectrum_c(),
@@ -130,6 +145,16 @@ impl A1Kind {
     pub const BANDS: usize = 5;
 
     pub const LIMIT: u32 = 100;
+
+    pub const TENS: u32 = 10 * A1Kind::BANDS as u32;
+
+    pub const MARKS: u32 = 1 << A1Kind::BANDS;
+
+    pub const SETS: usize = A1Kind::BANDS * (A1Kind::BANDS * A1Kind::BANDS + 5) / 6;
+
+    pub const START: u32 = 139;
+
+    pub const ORIGIN: u32 = 24;
 
     // The reference curve.
     pub fn reference() -> [u32; 16]
@@ -209,8 +234,7 @@ impl A1Kind {
         Numbers {
             bands: A1Kind::BANDS,
             limit: A1Kind::LIMIT,
-            start: 139,
-            origin: 24,
+            origin: Position(A1Kind::ORIGIN),
             airborne: true,
             entries: A1Kind::reference(),
             first: A1Kind::spectrum_c(),
@@ -226,6 +250,16 @@ impl I3Kind {
     pub const BANDS: usize = 16;
 
     pub const LIMIT: u32 = 320;
+
+    pub const TENS: u32 = 10 * I3Kind::BANDS as u32;
+
+    pub const MARKS: u32 = 1 << I3Kind::BANDS;
+
+    pub const SETS: usize = I3Kind::BANDS * (I3Kind::BANDS * I3Kind::BANDS + 5) / 6;
+
+    pub const START: u32 = 1489;
+
+    pub const ORIGIN: u32 = 168;
 
     // The reference curve.
     pub fn reference() -> [u32; 16]
@@ -257,8 +291,7 @@ impl I3Kind {
         Numbers {
             bands: I3Kind::BANDS,
             limit: I3Kind::LIMIT,
-            start: 1489,
-            origin: 168,
+            origin: Position(I3Kind::ORIGIN),
             airborne: false,
             entries: I3Kind::reference(),
             first: [1500; 16],
@@ -274,6 +307,16 @@ impl I1Kind {
     pub const BANDS: usize = 5;
 
     pub const LIMIT: u32 = 100;
+
+    pub const TENS: u32 = 10 * I1Kind::BANDS as u32;
+
+    pub const MARKS: u32 = 1 << I1Kind::BANDS;
+
+    pub const SETS: usize = I1Kind::BANDS * (I1Kind::BANDS * I1Kind::BANDS + 5) / 6;
+
+    pub const START: u32 = 449;
+
+    pub const ORIGIN: u32 = 163;
 
     // The reference curve.
     pub fn reference() -> [u32; 16]
@@ -305,13 +348,50 @@ impl I1Kind {
         Numbers {
             bands: I1Kind::BANDS,
             limit: I1Kind::LIMIT,
-            start: 449,
-            origin: 163,
+            origin: Position(I1Kind::ORIGIN),
             airborne: false,
             entries: I1Kind::reference(),
             first: [1500; 16],
             second: [1500; 16],
         }
+    }
+}
+
+// The number of bands of a kind.
+pub fn bands_of(kind: Kind) -> usize
+    ensures { λ r. ⌜ r ≡ bandsOf kind ⌝ }
+{
+    match kind {
+        Kind::A3 => A3Kind::BANDS,
+        Kind::A1 => A1Kind::BANDS,
+        Kind::I3 => I3Kind::BANDS,
+        Kind::I1 => I1Kind::BANDS,
+    }
+}
+
+// Where the curve method starts: the sum of the levels and what the kind adds, over ten for each band.
+pub fn start_of(kind: Kind, sum: u32) -> Position
+    requires { ⌜ sum < 1000000 ⌝ }
+    ensures { λ r. ⌜ r .0 ≡ (sum + startAdd kind) / (10 * bandsOf kind) ⌝ }
+{
+    match kind {
+        Kind::A3 => Position((sum + A3Kind::START) / A3Kind::TENS),
+        Kind::A1 => Position((sum + A1Kind::START) / A1Kind::TENS),
+        Kind::I3 => Position((sum + I3Kind::START) / I3Kind::TENS),
+        Kind::I1 => Position((sum + I1Kind::START) / I1Kind::TENS),
+    }
+}
+
+// Whether one of the marks of a kind's bands is set.
+pub fn marked(kind: Kind, marks: u16) -> bool
+    ensures { λ r. ⌜ r ≡ anyTo (bit marks) (bandsOf kind) ⌝ }
+{
+    let all = marks as u32;
+    match kind {
+        Kind::A3 => all % A3Kind::MARKS != 0,
+        Kind::A1 => all % A1Kind::MARKS != 0,
+        Kind::I3 => all % I3Kind::MARKS != 0,
+        Kind::I1 => all % I1Kind::MARKS != 0,
     }
 }
 

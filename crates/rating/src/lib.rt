@@ -5,8 +5,13 @@
 mod kinds;
 mod sheets;
 
+pub use kinds::A1Kind;
+pub use kinds::A3Kind;
+pub use kinds::I1Kind;
+pub use kinds::I3Kind;
 pub use kinds::Kind;
 pub use kinds::Numbers;
+pub use kinds::bands_of;
 pub use kinds::numbers_of;
 pub use sheets::Rated;
 pub use sheets::Sheet;

@@ -1,8 +1,12 @@
 // The sheet of a band set: one path for all kinds, by the numbers of the kind.
 use crate::kinds::Kind;
 use crate::kinds::Numbers;
+use crate::kinds::bands_of;
+use crate::kinds::marked;
 use crate::kinds::numbers_of;
-use curve::levels::Position;
+use crate::kinds::start_of;
+use curve::Position;
+use curve::levels::Accepted;
 use curve::levels::all_in_range;
 use curve::levels::energies;
 use curve::levels::least;
@@ -20,13 +24,13 @@ use quantity::Tenths;
 use quantity::signed::less;
 ghost use mathlib.Core.Path.{_≡_};
 ghost use mathlib.Core.Bool.{true};
-ghost use Prim.Native.Nat.{ℕ, _+_, _*_, _/_, _≤_, _<_};
+ghost use Prim.Native.Nat.{ℕ, _<_};
 ghost use Rattle.energy.specs.Energies.{Tables};
 ghost use Rattle.quantity.specs.Quantities.{halfUp};
-ghost use Rattle.curve.specs.Bands.{accepted, anyTo, bit};
+ghost use Rattle.curve.specs.Bands.{accepted};
 ghost use Rattle.curve.specs.Levels.{Entries, Count, at, levelAt};
 ghost use Rattle.rating.specs.Kinds.{bandsOf};
-ghost use Rattle.rating.specs.Numbers.{Sound, Sought, WeighedOf, ratingBy, termBy, termOf};
+ghost use Rattle.rating.specs.Numbers.{numbersOf, Sought, WeighedOf, ratingBy, termBy, termOf};
 ghost use Rattle.rating.specs.Sheets.{sheetOf, ratedOf};
 
 // A spectrum term, where the kind has it.
@@ -57,29 +61,16 @@ struct Weighed {
     step: u32,
 }
 
-// The start of the search: the sum of the levels and what the kind adds, over ten for each band.
-fn start_of(sum: u32, add: u32, bands: usize) -> u32
-    requires { ⌜ Count bands ⌝ }
-    requires { ⌜ sum + add < 1000000 ⌝ }
-    ensures { λ r. ⌜ r ≡ (sum + add) / (10 * bands) ⌝ }
-{
-    if bands == 16 {
-        (sum + add) / 160
-    } else {
-        (sum + add) / 50
-    }
-}
-
 // The accepted position of an accepted set, with the shifts from its start.
-fn sought(set: BandSet, n: Numbers) -> Position
-    requires { ⌜ Sound n ⌝ }
-    requires { ⌜ accepted set (n .bands) ≡ true ⌝ }
-    ensures { λ r. ⌜ Sought n set (r .at) (r .shifts) ⌝ }
+fn sought(kind: Kind, set: BandSet, n: Numbers) -> Accepted
+    requires { ⌜ n ≡ numbersOf kind ⌝ }
+    requires { ⌜ accepted set (bandsOf kind) ≡ true ⌝ }
+    ensures { λ r. ⌜ Sought kind set (r .at .0) (r .shifts) ⌝ }
 {
     let bands = n.bands;
     let entries = n.entries;
     let levels = levels(set, bands, n.airborne, entries);
-    let start = start_of(sum(&levels, bands), n.start, bands);
+    let start = start_of(kind, sum(&levels, bands));
     settle(&levels, bands, n.limit, start)
 }
 
@@ -107,38 +98,28 @@ fn weigh(
 }
 
 // The rating at position p.
-fn rating_at(p: u32, airborne: bool, origin: u32) -> Decibels
-    requires { ⌜ (p < 500) × (origin < 200) ⌝ }
-    ensures { λ r. ⌜ r .0 ≡ ratingBy airborne origin p ⌝ }
+fn rating_at(p: Position, airborne: bool, origin: Position) -> Decibels
+    requires { ⌜ (p .0 < 500) × (origin .0 < 200) ⌝ }
+    ensures { λ r. ⌜ r .0 ≡ ratingBy airborne (origin .0) (p .0) ⌝ }
 {
     if airborne {
-        Decibels(less(p, origin))
+        Decibels(less(p.0, origin.0))
     } else {
-        Decibels(less(origin, p))
+        Decibels(less(origin.0, p.0))
     }
 }
 
 // A term at position p, in tenths.
-fn term_at(w: Weighed, p: u32, airborne: bool, origin: u32) -> Tenths
-    requires { ⌜ (p < 500) × (origin < 200) × (w .least < 5000) × (w .step < 500) ⌝ }
-    ensures { λ r. ⌜ r .0 ≡ termBy airborne origin (w .least) (w .step) p ⌝ }
+fn term_at(w: Weighed, p: Position, airborne: bool, origin: Position) -> Tenths
+    requires { ⌜ (p .0 < 500) × (origin .0 < 200) × (w .least < 5000) × (w .step < 500) ⌝ }
+    ensures { λ r. ⌜ r .0 ≡ termBy airborne (origin .0) (w .least) (w .step) (p .0) ⌝ }
 {
+    let height = p.tenths();
+    let nought = origin.tenths();
     if airborne {
-        Tenths(less(w.least + 10 * origin, 200 + w.step + 10 * p))
+        Tenths(less(w.least + nought, 200 + w.step + height))
     } else {
-        Tenths(less(1350 + w.step + 10 * p, w.least + 10 * origin))
-    }
-}
-
-// Whether one of the first `bands` marks is set.
-fn marked(marks: u16, bands: usize) -> bool
-    requires { ⌜ Count bands ⌝ }
-    ensures { λ r. ⌜ r ≡ anyTo (bit marks) bands ⌝ }
-{
-    if bands == 16 {
-        marks != 0
-    } else {
-        marks % 32 != 0
+        Tenths(less(1350 + w.step + height, w.least + nought))
     }
 }
 
@@ -147,20 +128,20 @@ fn term_of(
     set: BandSet,
     bands: usize,
     airborne: bool,
-    origin: u32,
+    origin: Position,
     entries: [u32; 16],
-    p: u32,
+    p: Position,
     powers: &[u32; 901],
     thresholds: &[u64; 120],
     starts: &[u8; 895],
 ) -> Decibels
     requires { ⌜ Tables (now powers) (now thresholds) (now starts) ⌝ }
     requires { ⌜ Count bands ⌝ }
-    requires { ⌜ origin < 200 ⌝ }
+    requires { ⌜ origin .0 < 200 ⌝ }
     requires { ⌜ accepted set bands ≡ true ⌝ }
     requires { ⌜ ((i : ℕ) → i < 16 → Entries airborne (at entries i)) ⌝ }
-    requires { ⌜ p < 500 ⌝ }
-    ensures { λ r. ⌜ r .0 ≡ halfUp (termOf airborne origin (levelAt airborne set entries) bands p) ⌝ }
+    requires { ⌜ p .0 < 500 ⌝ }
+    ensures { λ r. ⌜ r .0 ≡ halfUp (termOf airborne (origin .0) (levelAt airborne set entries) bands (p .0)) ⌝ }
 {
     let w = weigh(set, bands, airborne, entries, powers, thresholds, starts);
     let tenths = term_at(w, p, airborne, origin);
@@ -180,30 +161,31 @@ pub fn sheet_of(
     ensures { λ r. ⌜ r ≡ sheetOf kind set ⌝ }
 {
     let n = numbers_of(kind);
-    let position = sought(set, n);
-    let p = position.at;
-    let shifts = position.shifts;
-    let rating = rating_at(p, n.airborne, n.origin);
+    let accepted = sought(kind, set, n);
+    let p = accepted.at;
+    let shifts = accepted.shifts;
+    let origin = n.origin;
+    let rating = rating_at(p, n.airborne, origin);
     let spectrum = n.first;
     let first = term_of(
         set,
         n.bands,
         n.airborne,
-        n.origin,
+        origin,
         spectrum,
         p,
         powers,
         thresholds,
         starts,
     );
-    let limit = marked(set.marks, n.bands);
+    let limit = marked(kind, set.marks);
     if n.airborne {
         let other = n.second;
         let second = Term::Given(term_of(
             set,
             n.bands,
             n.airborne,
-            n.origin,
+            origin,
             other,
             p,
             powers,
@@ -232,8 +214,7 @@ pub fn sheet_of(
 pub fn rate(kind: Kind, set: BandSet) -> Rated
     ensures { λ r. ⌜ r ≡ ratedOf kind set ⌝ }
 {
-    let n = numbers_of(kind);
-    let bands = n.bands;
+    let bands = bands_of(kind);
     if set.len != bands {
         return Rated::Refused(Refusal::BandCount);
     }

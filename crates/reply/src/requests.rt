@@ -3,6 +3,7 @@ use quantity::BandSet;
 use quantity::Refusal;
 use rating::Kind;
 use rating::Rated;
+use rating::bands_of;
 use rating::sheet_of;
 use request::Gathered;
 use request::Named;
@@ -14,7 +15,6 @@ ghost use mathlib.Core.Path.{_≡_};
 ghost use Prim.Native.Nat.{_+_, _<_};
 ghost use lib.ListN.{length, drop};
 ghost use Rattle.energy.specs.Energies.{Tables};
-ghost use Rattle.rating.specs.Kinds.{bandsOf};
 ghost use Rattle.request.specs.Reading.{keySpan, withKey};
 ghost use Rattle.reply.specs.Answers.{noReply, replyAt, replyTo, judgedIn, Clean};
 
@@ -25,18 +25,6 @@ pub struct Reply {
     pub key: usize,
     pub len: usize,
     pub rated: Rated,
-}
-
-// The number of bands of a kind.
-fn bands_of(kind: Kind) -> usize
-    ensures { λ r. ⌜ r ≡ bandsOf kind ⌝ }
-{
-    match kind {
-        Kind::A3 => 16,
-        Kind::A1 => 5,
-        Kind::I3 => 16,
-        Kind::I1 => 5,
-    }
 }
 
 // What a request is answered: 1 where the number of bands is not the kind's, then the first refusal of a band, then its sheet.

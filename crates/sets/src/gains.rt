@@ -1,6 +1,8 @@
 // What lifting each band takes off the total of deficits at a position. Values and positions are counted as the rating counts
 // them: a better band has a greater level, a stricter position a greater p, and the deficit is 10 p less the level.
+use curve::Position;
 use quantity::BandSet;
+use quantity::Decibels;
 use quantity::Tenths;
 use quantity::signed::above;
 use quantity::signed::below;
@@ -20,7 +22,7 @@ pub struct Gains {
 }
 
 // What a number is counted from an origin: above it for airborne, below it for impact.
-pub fn counted(z: i32, airborne: bool, origin: u32) -> u32
+fn counted(z: i32, airborne: bool, origin: u32) -> u32
     requires { ⌜ Countable airborne z origin ⌝ }
     ensures { λ r. ⌜ r ≡ levelBy airborne z origin ⌝ }
 {
@@ -29,6 +31,14 @@ pub fn counted(z: i32, airborne: bool, origin: u32) -> u32
     } else {
         below(z, origin)
     }
+}
+
+// The position that rates a target, the position that rates 0 dB given.
+pub fn position_at(target: Decibels, airborne: bool, origin: Position) -> Position
+    requires { ⌜ Countable airborne (target .0) (origin .0) ⌝ }
+    ensures { λ r. ⌜ r .0 ≡ levelBy airborne (target .0) (origin .0) ⌝ }
+{
+    Position(counted(target.0, airborne, origin.0))
 }
 
 // How far a level stays below a height.
@@ -61,15 +71,21 @@ fn best(airborne: bool) -> Tenths
 }
 
 // The gain of each of the first `bands` bands at position p, and the total of their deficits there.
-pub fn gains_at(set: BandSet, bands: usize, airborne: bool, entries: [u32; 16], p: u32) -> Gains
+pub fn gains_at(
+    set: BandSet,
+    bands: usize,
+    airborne: bool,
+    entries: [u32; 16],
+    p: Position,
+) -> Gains
     requires { ⌜ bands ≤ 16 ⌝ }
     requires { ⌜ accepted set bands ≡ true ⌝ }
     requires { ⌜ ((i : ℕ) → i < 16 → Entries airborne (at entries i)) ⌝ }
-    requires { ⌜ p < 500 ⌝ }
-    ensures { λ r. ⌜ Gained airborne set entries bands p (r .each) (r .total) ⌝ }
+    requires { ⌜ p .0 < 500 ⌝ }
+    ensures { λ r. ⌜ Gained airborne set entries bands (p .0) (r .each) (r .total) ⌝ }
 {
     let highest = best(airborne);
-    let height = 10 * p;
+    let height = p.tenths();
     let mut each = [0u32; 16];
     let mut total = 0;
     let mut i = 0;

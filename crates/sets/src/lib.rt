@@ -4,6 +4,6 @@ mod gains;
 mod masks;
 
 pub use gains::Gains;
-pub use gains::counted;
 pub use gains::gains_at;
+pub use gains::position_at;
 pub use masks::mask_at;

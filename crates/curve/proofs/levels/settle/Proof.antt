@@ -9,11 +9,11 @@ use Rattle.curve.proofs.levels.settle.Statement.{statement}
 use Rattle.curve.proofs.levels.settle.Tie as tie
 
 abbrev Inv-loop : tie.InvT-loop
-Inv-loop levels bands limit start p₀ shifts₀ p shifts =
-    (p + shifts ≡ start) × ((s : ℕ) → s < shifts → limit < totalAt (at levels) bands (start - s))
+Inv-loop levels bands limit start shifts₀ p shifts =
+    (p .0 + shifts ≡ start .0) × ((s : ℕ) → s < shifts → limit < totalAt (at levels) bands (start .0 - s))
 
 abbrev μ-loop : tie.MeasureT-loop
-μ-loop levels bands limit start p₀ shifts₀ p shifts = p
+μ-loop levels bands limit start shifts₀ p shifts = p .0
 
 loop-holds : tie.Need-loop-holds Inv-loop μ-loop
 loop-holds c = (omega arith, λ s h. absurd (omega arith))
@@ -21,26 +21,24 @@ loop-holds c = (omega arith, λ s h. absurd (omega arith))
 total-requires : tie.Need-total-requires Inv-loop μ-loop
 total-requires c κs = (omega arith, omega arith)
 
-sub-p : tie.Need-sub-p Inv-loop μ-loop
-sub-p c =
+eased-requires : tie.Need-eased-requires Inv-loop μ-loop
+eased-requires c κs =
     let b = c .before .before in
-    above-zero (at (b .before .args .levels .now)) (b .before .args .bands) (b .before .args .limit) (b .loop .p) (c .before .total .result) (c .before .total .ensures) (c .if1 .taken)
+    above-zero (at (b .before .args .levels .now)) (b .before .args .bands) (b .before .args .limit) (b .loop .p .0) (c .before .total .result) (c .before .total .ensures) (c .if1 .taken)
 
 add-shifts : tie.Need-add-shifts Inv-loop μ-loop
 add-shifts c = omega arith
 
 loop-less : tie.Need-loop-less Inv-loop μ-loop
-loop-less c =
-    let h : 1 ≤ c .before .before .loop .p = sub-p c in
-    omega arith
+loop-less c = omega (arith, c .eased .ensures)
 
 loop-again : tie.Need-loop-again Inv-loop μ-loop
 loop-again c =
-    let b = c .before .before in
+    let b = c .before .before .before in
     let a = b .before .args in
-    let h : 1 ≤ b .loop .p = sub-p c in (
-      omega arith,
-      next-over (at (a .levels .now)) (a .bands) (a .limit) (a .start) (b .loop .p) (b .loop .shifts) (c .before .total .result) (b .loop .inv .0) (c .before .total .ensures) (c .if1 .taken) (b .loop .inv .1),
+    let t = c .before .before .total in (
+      omega (arith, c .eased .ensures),
+      next-over (at (a .levels .now)) (a .bands) (a .limit) (a .start .0) (b .loop .p .0) (b .loop .shifts) (t .result) (b .loop .inv .0) (t .ensures) (c .before .if1 .taken) (b .loop .inv .1),
     )
 
 returns : tie.Need-returns Inv-loop μ-loop
@@ -60,7 +58,7 @@ settle-spec =
     μ-loop
     loop-holds
     total-requires
-    sub-p
+    eased-requires
     add-shifts
     loop-less
     loop-again

@@ -1,5 +1,6 @@
--- `curve::levels::total` meets its contract. The invariant: the total of the bands passed. Assumes nothing.
-use mathlib.Core.Path.{_≡_, refl, _∙_, ap}
+-- `curve::levels::total` meets its contract. The invariant: the total of the bands passed, at the position of the height.
+-- Assumes nothing.
+use mathlib.Core.Path.{_≡_, _∙_, ap}
 use mathlib.Core.Logic.{⊎-elim}
 use Prim.Native.Nat.{ℕ, _*_, _-_, _≤_}
 use native.Mathlib.Omega.{arith}
@@ -9,16 +10,17 @@ use Rattle.curve.proofs.levels.total.Statement.{statement}
 use Rattle.curve.proofs.levels.total.Tie as tie
 
 abbrev Inv-loop : tie.InvT-loop
-Inv-loop levels bands p height total₀ i₀ total i = (i ≤ bands) × (total ≡ totalAt (at levels) i p)
+Inv-loop levels bands height total₀ i₀ total i =
+    (i ≤ bands) × ((p : ℕ) → height ≡ 10 * p → total ≡ totalAt (at levels) i p)
 
 abbrev μ-loop : tie.MeasureT-loop
-μ-loop levels bands p height total₀ i₀ total i = bands - i
+μ-loop levels bands height total₀ i₀ total i = bands - i
 
-mul-height : tie.Need-mul-height Inv-loop μ-loop
-mul-height c = omega arith
+tenths-requires : tie.Need-tenths-requires Inv-loop μ-loop
+tenths-requires c κs = omega arith
 
 loop-holds : tie.Need-loop-holds Inv-loop μ-loop
-loop-holds c = (omega arith, total-none (at (c .args .levels .now)) (c .args .p))
+loop-holds c = (omega arith, λ p e. total-none (at (c .before .args .levels .now)) p)
 
 mul-if1 : tie.Need-mul-if1 Inv-loop μ-loop
 mul-if1 c = omega arith
@@ -38,7 +40,8 @@ sub-total c = omega arith
 add-total : tie.Need-add-total Inv-loop μ-loop
 add-total c =
     let b = c .before .before .before .before in
-    omega (arith, total-most (at (b .before .args .levels .now)) (b .loop .i) (b .before .args .p) (omega arith))
+    let p : ℕ = b .before .before .args .p .0 in
+    omega (arith, total-most (at (b .before .before .args .levels .now)) (b .loop .i) p (omega arith), b .loop .inv .1 p (b .before .tenths .ensures))
 
 add-i : tie.Need-add-i Inv-loop μ-loop
 add-i c = omega arith
@@ -49,20 +52,21 @@ loop-less c = omega arith
 loop-again : tie.Need-loop-again Inv-loop μ-loop
 loop-again c =
     let b = c .before .before .before in
-    let levels = b .before .args .levels .now in
-    let p : ℕ = b .before .args .p in (
+    let levels = b .before .before .args .levels .now in
+    let height : ℕ = b .before .tenths .result in (
       omega arith,
-      ⊎-elim
-          (λ w. w .2 ∙ total-more (at levels) (b .loop .i) p (b .loop .total) (10 * p - at levels (b .loop .i)) (b .loop .inv .1) refl)
-          (λ w. w .1 ∙ total-same (at levels) (b .loop .i) p (b .loop .total) (b .loop .inv .1) (w .0 .left))
+      λ p e. ⊎-elim
+          (λ w. w .2 ∙ total-more (at levels) (b .loop .i) p (b .loop .total) (height - at levels (b .loop .i)) (b .loop .inv .1 p e) (ap (λ (h : ℕ). h - at levels (b .loop .i)) e))
+          (λ w. w .1 ∙ total-same (at levels) (b .loop .i) p (b .loop .total) (b .loop .inv .1 p e) (omega (arith, w .0 .left, e)))
           (c .if1 .came),
     )
 
 returns : tie.Need-returns Inv-loop μ-loop
 returns c =
     let b = c .before in
-    let e : b .loop .i ≡ b .before .args .bands = omega arith in
-    b .loop .inv .1 ∙ ap (λ (n : ℕ). totalAt (at (b .before .args .levels .now)) n (b .before .args .p)) e
+    let a = b .before .before .args in
+    let e : b .loop .i ≡ a .bands = omega arith in
+    b .loop .inv .1 (a .p .0) (b .before .tenths .ensures) ∙ ap (λ (n : ℕ). totalAt (at (a .levels .now)) n (a .p .0)) e
 
 pub total-spec : {M : Type 1} → statement M
 total-spec =
@@ -70,7 +74,7 @@ total-spec =
     (tie.spec
     Inv-loop
     μ-loop
-    mul-height
+    tenths-requires
     loop-holds
     mul-if1
     element-copy-out-if1

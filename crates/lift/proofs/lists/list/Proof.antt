@@ -1,24 +1,16 @@
 -- `lift::lists::list` meets its contract: the position of a better target can be counted, the total there is over the limit,
 -- and the list by gains is the list by ratings. Assumes nothing.
-use mathlib.Core.Path.{_≡_, _∙_, ap}
+use mathlib.Core.Path.{_∙_, ap}
 use mathlib.Core.List.{List}
 use Prim.Native.Nat.{ℕ}
 use borrow.Author.Needs.{needs}
 use lib.ListN.{length}
-use Rattle.quantity.proofs.Rim.{back}
-use Rattle.curve.specs.Levels.{levelBy}
 use Rattle.lift.specs.Calls.{front}
 use Rattle.lift.proofs.Answers.{Worked, asks-count, asks-gains, worked}
 use Rattle.lift.proofs.lists.list.Statement.{statement}
 use Rattle.lift.proofs.lists.list.Tie as tie
 
--- the position, and what the gains there give
-placed : (c : tie.After-counted) → let n = c .before .before .numbers-of .result in
-    c .counted .result ≡ levelBy (n .airborne) (c .before .before .before .before .args .target .0) (n .origin)
-placed c =
-    let t = c .before .before .before .before .args .target .0 in
-    rw (back t (c .before .struct-told .given .0 .1)) at (c .counted .ensures)
-
+-- what the gains at the position give
 done : (c : tie.After-gains-at) → let a = c .before .before .before .before .before .before .args in
     let n = c .before .before .before .before .numbers-of .result in
     Worked (a .kind) (a .set) (a .target .0) (c .gains-at .result .each) (c .gains-at .result .total) (n .limit) (length (a .out .now))
@@ -26,25 +18,24 @@ done c =
     let s = c .before .before .before .before .before .before in
     let m = c .before .before .before .before .numbers-of in
     worked (s .args .kind) (s .args .set) (s .pre .0) (s .args .target .0) (s .pre .1 .0) (s .pre .1 .1 .0) (m .result) (m .ensures)
-    (c .before .before .counted .result) (length (s .args .out .now)) (c .gains-at .result .each) (c .gains-at .result .total)
-    (placed (c .before .before)) (s .pre .1 .1 .1) (c .gains-at .ensures)
+    (c .before .before .position-at .result .0) (length (s .args .out .now)) (c .gains-at .result .each) (c .gains-at .result .total)
+    (c .before .before .position-at .ensures) (s .pre .1 .1 .1) (c .gains-at .ensures)
 
 numbers-of-requires : tie.Need-numbers-of-requires
 numbers-of-requires c κs = search needs
 
-counted-requires : tie.Need-counted-requires
-counted-requires c κs =
+position-at-requires : tie.Need-position-at-requires
+position-at-requires c κs =
     let s = c .before .before .before in
     let m = c .before .numbers-of in
-    rw (back (s .args .target .0) (c .struct-told .given .0 .1))
-    (asks-count (s .args .kind) (s .args .set) (s .pre .0) (s .args .target .0) (s .pre .1 .0) (s .pre .1 .1 .0) (m .result) (m .ensures))
+    asks-count (s .args .kind) (s .args .set) (s .pre .0) (s .args .target .0) (s .pre .1 .0) (s .pre .1 .1 .0) (m .result) (m .ensures)
 
 gains-at-requires : tie.Need-gains-at-requires
 gains-at-requires c κs =
     let s = c .before .before .before .before .before in
     let m = c .before .before .before .numbers-of in
     asks-gains (s .args .kind) (s .args .set) (s .pre .0) (s .args .target .0) (s .pre .1 .0) (s .pre .1 .1 .0) (m .result) (m .ensures)
-    (c .before .counted .result) (placed (c .before))
+    (c .before .position-at .result .0) (c .before .position-at .ensures)
 
 sub-fill : tie.Need-sub-fill
 sub-fill c = done (c .before .before .before) .over
@@ -70,7 +61,7 @@ list-spec =
     tie.close
     (tie.spec
     numbers-of-requires
-    counted-requires
+    position-at-requires
     gains-at-requires
     sub-fill
     fill-requires

@@ -16,12 +16,12 @@ less-requires-2 c κs = search needs
 returns : tie.Need-returns
 returns c =
     let b = c .before .before in
-    back (c .less .result) (c .less .ok) ∙ c .less .ensures ∙ ap (λ (t : Bool). ratingBy t (b .args .origin) (b .args .p)) (sym (c .before .if1 .taken))
+    back (c .less .result) (c .less .ok) ∙ c .less .ensures ∙ ap (λ (t : Bool). ratingBy t (b .args .origin .0) (b .args .p .0)) (sym (c .before .if1 .taken))
 
 returns-2 : tie.Need-returns-2
 returns-2 c =
     let b = c .before .before in
-    back (c .less2 .result) (c .less2 .ok) ∙ c .less2 .ensures ∙ ap (λ (t : Bool). ratingBy t (b .args .origin) (b .args .p)) (sym (c .before .if1 .left))
+    back (c .less2 .result) (c .less2 .ok) ∙ c .less2 .ensures ∙ ap (λ (t : Bool). ratingBy t (b .args .origin .0) (b .args .p .0)) (sym (c .before .if1 .left))
 
 pub rating-at-spec : {M : Type 1} → statement M
 rating-at-spec = tie.close (tie.spec less-requires less-requires-2 returns returns-2)

@@ -50,8 +50,8 @@ rounded-requires c κs =
     let b = c .before .before in
     let n = b .args in
     let w = c .before .weigh .result in
-    let t : (P (termBy (n .airborne) (n .origin) (w .least) (w .step) (b .args .p)) ≤ 10000) × (N (termBy (n .airborne) (n .origin) (w .least) (w .step) (b .args .p)) ≤ 10000) =
-    term-small (n .airborne) (n .origin) (w .least) (w .step) (b .args .p) (b .pre .1 .1 .0) (small (c .before) .least) (small (c .before) .step) (b .pre .1 .1 .1 .1 .1) in
+    let t : (P (termBy (n .airborne) (n .origin .0) (w .least) (w .step) (b .args .p .0)) ≤ 10000) × (N (termBy (n .airborne) (n .origin .0) (w .least) (w .step) (b .args .p .0)) ≤ 10000) =
+    term-small (n .airborne) (n .origin .0) (w .least) (w .step) (b .args .p .0) (b .pre .1 .1 .0) (small (c .before) .least) (small (c .before) .step) (b .pre .1 .1 .1 .1 .1) in
     rw (c .term-at .ensures) (record { low = omega (ints, t .1); high = omega (ints, t .0) })
 
 returns : tie.Need-returns
@@ -61,7 +61,7 @@ returns c =
     let w = c .before .before .weigh in
     c .rounded .ensures
     ∙ ap halfUp (c .before .term-at .ensures
-    ∙ ap₂ (λ (l v : ℕ). termBy (n .airborne) (n .origin) l v (b .args .p)) (w .ensures .least-is) (w .ensures .step-is))
+    ∙ ap₂ (λ (l v : ℕ). termBy (n .airborne) (n .origin .0) l v (b .args .p .0)) (w .ensures .least-is) (w .ensures .step-is))
 
 pub term-of-spec : {M : Type 1} → statement M
 term-of-spec = tie.close (tie.spec weigh-requires term-at-requires rounded-requires returns)

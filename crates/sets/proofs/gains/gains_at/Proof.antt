@@ -18,39 +18,46 @@ use Rattle.sets.proofs.gains.gains_at.Statement.{statement}
 use Rattle.sets.proofs.gains.gains_at.Tie as tie
 
 abbrev Inv-loop : tie.InvT-loop
-Inv-loop bands airborne p set entries highest height each₀ total₀ i₀ each total i =
-    (i ≤ bands) × (length each ≡ 16) × ((j : ℕ) → j < i → getD each j 0 ≡ gainAt airborne set entries p j)
-    × ((j : ℕ) → i ≤ j → getD each j 0 ≡ 0) × (total ≡ totalAt (levelAt airborne set entries) i p) × (total ≤ 5000 * i)
+Inv-loop bands airborne set entries highest height each₀ total₀ i₀ each total i =
+    (i ≤ bands) × (length each ≡ 16) × ((p j : ℕ) → height ≡ 10 * p → j < i → getD each j 0 ≡ gainAt airborne set entries p j)
+    × ((j : ℕ) → i ≤ j → getD each j 0 ≡ 0) × ((p : ℕ) → height ≡ 10 * p → total ≡ totalAt (levelAt airborne set entries) i p) × (total ≤ 5000 * i)
 
 abbrev μ-loop : tie.MeasureT-loop
-μ-loop bands airborne p set entries highest height each₀ total₀ i₀ each total i = bands - i
+μ-loop bands airborne set entries highest height each₀ total₀ i₀ each total i = bands - i
 
 -- at a turn: the band's value and entry, and what the two deficits are
-value-in : (c : tie.In-loop Inv-loop μ-loop) → inRange (bandOf (c .before .before .before .args .t1) (c .before .loop .i)) ≡ true
-value-in c = let s = c .before .before .before in band-in (s .args .t1) (s .args .bands) (s .pre .1 .0) (c .before .loop .i) (c .loop-test .taken)
+value-in : (c : tie.In-loop Inv-loop μ-loop) → inRange (bandOf (c .before .before .before .before .args .t1) (c .before .loop .i)) ≡ true
+value-in c = let s = c .before .before .before .before in band-in (s .args .t1) (s .args .bands) (s .pre .1 .0) (c .before .loop .i) (c .loop-test .taken)
 
-entry-in : (c : tie.In-loop Inv-loop μ-loop) → Entries (c .before .before .before .args .airborne) (at (c .before .before .before .args .t4) (c .before .loop .i))
-entry-in c = let s = c .before .before .before in s .pre .1 .1 .0 (c .before .loop .i) (omega arith)
+entry-in : (c : tie.In-loop Inv-loop μ-loop) → Entries (c .before .before .before .before .args .airborne) (at (c .before .before .before .before .args .t4) (c .before .loop .i))
+entry-in c = let s = c .before .before .before .before in s .pre .1 .1 .0 (c .before .loop .i) (omega arith)
 
-lifted-is : (c : tie.After-lacking2 Inv-loop μ-loop) → let l = c .before .before .before .before .loop in
-    let a = c .before .before .before .before .before .before .args in
-    c .lacking2 .result ≡ 10 * a .p - levelBy (a .airborne) (highest (a .airborne)) (at (a .t4) (l .i))
+lifted-is : (c : tie.After-lacking2 Inv-loop μ-loop) → let h = c .before .before .before .before .before in
+    let a = h .before .before .args in
+    c .lacking2 .result ≡ h .tenths .result - levelBy (a .airborne) (highest (a .airborne)) (at (a .t4) (c .before .before .before .before .loop .i))
 lifted-is c =
     let l = c .before .before .before .before .loop in
-    let a = c .before .before .before .before .before .before .args in
+    let h = c .before .before .before .before .before in
+    let a = h .before .before .args in
     c .lacking2 .ensures
-    ∙ ap (λ (z : ℤ). 10 * a .p - levelBy (a .airborne) z (at (a .t4) (l .i))) (c .before .before .before .before .before .best .ensures)
+    ∙ ap (λ (z : ℤ). h .tenths .result - levelBy (a .airborne) z (at (a .t4) (l .i))) (h .before .best .ensures)
 
 best-requires : tie.Need-best-requires Inv-loop μ-loop
 best-requires c κs = search needs
 
-mul-height : tie.Need-mul-height Inv-loop μ-loop
-mul-height c = omega arith
+tenths-requires : tie.Need-tenths-requires Inv-loop μ-loop
+tenths-requires c κs = omega arith
 
 loop-holds : tie.Need-loop-holds Inv-loop μ-loop
 loop-holds c =
-    let a = c .before .args in
-    (omega arith, refl, λ j h. absurd (omega arith), λ j h. zeros j, total-none (levelAt (a .airborne) (a .t1) (a .t4)) (a .p), omega arith)
+    let a = c .before .before .args in (
+      omega arith,
+      refl,
+      λ p j e h. absurd (omega arith),
+      λ j h. zeros j,
+      λ p e. total-none (levelAt (a .airborne) (a .t1) (a .t4)) p,
+      omega arith,
+    )
 
 mul-value : tie.Need-mul-value Inv-loop μ-loop
 mul-value c = omega arith
@@ -75,13 +82,13 @@ array-read-lacking-2 c = omega arith
 
 lacking-requires-2 : tie.Need-lacking-requires-2 Inv-loop μ-loop
 lacking-requires-2 c κs =
-    let b = c .before .before .before .before in
+    let b = c .before .before .before .before .before in
     (ap inRange (b .best .ensures) ∙ best-in (b .before .args .airborne), entry-in (c .before .before))
 
 sub-each : tie.Need-sub-each Inv-loop μ-loop
 sub-each c =
     let l = c .before .before .before .before .loop in
-    let a = c .before .before .before .before .before .before .args in
+    let a = c .before .before .before .before .before .before .before .args in
     omega (
       arith,
       c .before .lacking .ensures,
@@ -96,7 +103,7 @@ array-write-each : tie.Need-array-write-each Inv-loop μ-loop
 array-write-each c = omega arith
 
 add-total : tie.Need-add-total Inv-loop μ-loop
-add-total c = omega (arith, c .before .lacking .ensures)
+add-total c = omega (arith, c .before .lacking .ensures, c .before .before .before .before .before .tenths .ensures)
 
 add-i : tie.Need-add-i Inv-loop μ-loop
 add-i c = omega arith
@@ -108,27 +115,30 @@ loop-again : tie.Need-loop-again Inv-loop μ-loop
 loop-again c =
     let b = c .before .before .before .before in
     let l = b .loop in
-    let a = b .before .before .args in
-    let g : ℕ → ℕ = gainAt (a .airborne) (a .t1) (a .t4) (a .p) in
+    let a = b .before .before .before .args in
     let v : ℕ = c .before .lacking .result - c .lacking2 .result in
-    let e : v ≡ g (l .i) = ap₂ _-_ (c .before .lacking .ensures) (lifted-is c) in (
+    let lacks : (p : ℕ) → b .before .tenths .result ≡ 10 * p → c .before .lacking .result ≡ 10 * p - levelAt (a .airborne) (a .t1) (a .t4) (l .i) =
+    λ p e. c .before .lacking .ensures ∙ ap (λ (h : ℕ). h - levelAt (a .airborne) (a .t1) (a .t4) (l .i)) e in
+    let gains : (p : ℕ) → b .before .tenths .result ≡ 10 * p → v ≡ gainAt (a .airborne) (a .t1) (a .t4) p (l .i) =
+    λ p e. ap₂ _-_ (lacks p e) (lifted-is c ∙ ap (λ (h : ℕ). h - levelBy (a .airborne) (highest (a .airborne)) (at (a .t4) (l .i))) e) in (
       omega arith,
       length-set (l .each) (l .i) v ∙ l .inv .1,
-      put-more (l .each) (l .i) v g (omega arith) (l .inv .2) e,
+      λ p j e h. put-more (l .each) (l .i) v (gainAt (a .airborne) (a .t1) (a .t4) p) (omega arith) (λ i q. l .inv .2 p i e q) (gains p e) j h,
       put-rest (l .each) (l .i) v (l .inv .3),
-      total-more (levelAt (a .airborne) (a .t1) (a .t4)) (l .i) (a .p) (l .total) (c .before .lacking .result) (l .inv .4) (c .before .lacking .ensures),
-      omega (arith, c .before .lacking .ensures),
+      λ p e. total-more (levelAt (a .airborne) (a .t1) (a .t4)) (l .i) p (l .total) (c .before .lacking .result) (l .inv .4 p e) (lacks p e),
+      omega (arith, c .before .lacking .ensures, b .before .tenths .ensures),
     )
 
 returns : tie.Need-returns Inv-loop μ-loop
 returns c =
     let l = c .before .loop in
-    let a = c .before .before .before .args in
+    let t = c .before .before in
+    let a = t .before .before .args in
     let e : l .i ≡ a .bands = omega arith in
     record {
-      each = λ j h. l .inv .2 j (omega arith);
+      each = λ j h. l .inv .2 (a .p .0) j (t .tenths .ensures) (omega arith);
       rest = λ j h. l .inv .3 j (omega arith);
-      all = l .inv .4 ∙ ap (λ (n : ℕ). totalAt (levelAt (a .airborne) (a .t1) (a .t4)) n (a .p)) e;
+      all = l .inv .4 (a .p .0) (t .tenths .ensures) ∙ ap (λ (n : ℕ). totalAt (levelAt (a .airborne) (a .t1) (a .t4)) n (a .p .0)) e;
     }
 
 pub gains-at-spec : {M : Type 1} → statement M
@@ -138,7 +148,7 @@ gains-at-spec =
     Inv-loop
     μ-loop
     best-requires
-    mul-height
+    tenths-requires
     loop-holds
     mul-value
     element-copy-out-value

@@ -19,8 +19,7 @@ unfolding numbersOf
 returns c = λ i. record {
   bands = 16;
   limit = 320;
-  start = 519;
-  origin = 24;
+  origin = record { 0 = 24 };
   airborne = true;
   entries = c .before .before .reference .ensures i;
   first = c .before .spectrum-c .ensures i;

@@ -14,8 +14,7 @@ unfolding numbersOf firstOf secondOf listed
 returns c = λ i. record {
   bands = 5;
   limit = 100;
-  start = 449;
-  origin = 163;
+  origin = record { 0 = 163 };
   airborne = false;
   entries = c .reference .ensures i;
   first = firstOf I1;

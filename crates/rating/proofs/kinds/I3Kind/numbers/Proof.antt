@@ -14,8 +14,7 @@ unfolding numbersOf firstOf secondOf listed
 returns c = λ i. record {
   bands = 16;
   limit = 320;
-  start = 1489;
-  origin = 168;
+  origin = record { 0 = 168 };
   airborne = false;
   entries = c .reference .ensures i;
   first = firstOf I3;
