@@ -7,7 +7,7 @@ use Prim.Native.Nat.{ℕ, zero, suc, _+_, _-_, _≤_, _<_}
 use native.Mathlib.Omega.{arith}
 use borrow.Author.Tests.{le-leb, leb-true, leb-false, ltb-true, ltb-false, eqb-true, eqb-false}
 use lib.Dec.{leb, ltb, eqb}
-use lib.ListN.{length, take, drop, length-drop, length-take, take-append-drop}
+use lib.ListN.{length, take, drop, length-drop, take-append-drop}
 use lib.Seq.{drop-drop, length-take-le, drop-length}
 use Rattle.rating.specs.declared.kinds.Kind.{Kind}
 use Rattle.rating.specs.declared.sheets.Rated.{Rated}
@@ -26,7 +26,7 @@ use Rattle.reply.specs.Answers.{judged, answerTo, answerOf, noReply, replyTo, r
 use Rattle.line.specs.Answers.{linesOf, answersTo, answersOf}
 use Rattle.line.specs.Blocks.{feedIn, movedBy, feedAfter, feedPiece, pieceAt, Step, skipBy, stepAt, Block, blockFrom, blockOf, afterFeed, answersFrom, Run}
 use Rattle.line.specs.Blocks.Run.{done, part, end}
-use Rattle.request.proofs.Stands.{Stands, taken, fits}
+use Rattle.request.proofs.Stands.{Stands, taken}
 use Rattle.request.proofs.Wholes.{RequestAt, RequestGood, request-ok, request-here, part-stands, text-length, IsText, text-of, means}
 use Rattle.reply.proofs.Replies.{reply-none}
 use Rattle.line.proofs.Placing.{reply-text}
@@ -150,48 +150,67 @@ module _ (s : List ℕ) (at : ℕ) (F : List ℕ) where
       go zero f = ap answersOf (after-none (drop at s) F f ∙ ap (λ (l : List ℕ). afterFeed (l ++ F)) (sym (drop-length s)))
       go (suc w) f = by-next w f (at + suc w) refl
 
+  -- the first line of what is left, with its answer, and what stands behind it
+  pub record First (text : List ℕ) (p : Piece) : Type 0 where
+    pub line : List ℕ
+    pub rest : List ℕ
+    pub lines : linesOf (drop at s ++ F) ≡ line ∷ linesOf rest
+    pub answer : answerOf line ≡ text
+    pub behind : answersOf rest ≡ answersFrom (p .skipping) (drop (p .next) s ++ F)
+
   -- a request
-  request-means : (a : Asked) → RequestGood s at a → (replyTo at a .next ≡ 0 → ⊥) → Means false (replyText s (replyTo at a)) false (replyTo at a .next)
+  request-first : (a : Asked) → RequestGood s at a → (replyTo at a .next ≡ 0 → ⊥)
+      → First (replyText s (replyTo at a)) (record { next = replyTo at a .next; skipping = false })
   unfolding replyTo
-  request-means Asked.nothing g z = absurd (z refl)
-  request-means (asked kind key bands next) g z = go (leb next (at + 512)) refl z
+  request-first Asked.nothing g z = absurd (z refl)
+  request-first (asked kind key bands next) g z = go (leb next (at + 512)) refl z
     where
       reply : Reply
       reply = record { next = next; kind = kind; key = at + 3; len = length key; rated = judged kind bands }
 
-      go : (t : Bool) → leb next (at + 512) ≡ t → (cond t reply noReply .next ≡ 0 → ⊥) → Means false (replyText s (cond t reply noReply)) false (cond t reply noReply .next)
-      go true e z =
-          first-answered (drop at s ++ F) (requestText kind key bands) (drop next s ++ F) (replyText s reply) (first-line s at kind key bands next g F)
-          (answer-there s at kind key bands next g (leb-true next (at + 512) e)
-          ∙ ap (λ (l : List ℕ). ratedText kind l (judged kind bands)) (g .key-is)
-          ∙ sym (reply-text s reply z))
+      go : (t : Bool) → leb next (at + 512) ≡ t → (cond t reply noReply .next ≡ 0 → ⊥)
+          → First (replyText s (cond t reply noReply)) (record { next = cond t reply noReply .next; skipping = false })
+      go true e z = record {
+        line = requestText kind key bands;
+        rest = drop next s ++ F;
+        lines = first-line s at kind key bands next g F;
+        answer = answer-there s at kind key bands next g (leb-true next (at + 512) e)
+            ∙ ap (λ (l : List ℕ). ratedText kind l (judged kind bands)) (g .key-is)
+            ∙ sym (reply-text s reply z);
+        behind = refl;
+      }
       go false e z = absurd (z refl)
 
-  reply-means : (replyAt s at .next ≡ 0 → ⊥) → Means false (replyText s (replyAt s at)) false (replyAt s at .next)
+  reply-first : (replyAt s at .next ≡ 0 → ⊥) → First (replyText s (replyAt s at)) (record { next = replyAt s at .next; skipping = false })
   unfolding replyAt
-  reply-means z = request-means (requestAt s at) (request-ok s at) z
+  reply-first z = request-first (requestAt s at) (request-ok s at) z
 
   -- a line that is none
-  none-means : at ≤ length s → replyAt s at .next ≡ 0 → (w : ℕ) → feedIn (drop at s) ≡ suc w → Means false (replyText s noReply) false (at + suc w)
-  none-means h z w f =
-      first-answered (drop at s ++ F) (take (suc w) (drop at s)) (drop (at + suc w) s ++ F) (replyText s noReply)
-      (lines-first (drop at s) F w f ∙ ap (λ (l : List ℕ). take (suc w) (drop at s) ∷ linesOf (l ++ F)) (feed-drop w))
-      (none-there s at w f h z ∙ sym (reply-none s noReply refl))
+  none-first : at ≤ length s → replyAt s at .next ≡ 0 → (w : ℕ) → feedIn (drop at s) ≡ suc w → First noRequestText (record { next = at + suc w; skipping = false })
+  none-first h z w f = record {
+    line = take (suc w) (drop at s);
+    rest = drop (at + suc w) s ++ F;
+    lines = lines-first (drop at s) F w f ∙ ap (λ (l : List ℕ). take (suc w) (drop at s) ∷ linesOf (l ++ F)) (feed-drop w);
+    answer = none-there s at w f h z;
+    behind = refl;
+  }
 
   at-end : (F : List ℕ) → F ≡ drop (length s) s ++ F
   at-end F = ap (λ (l : List ℕ). l ++ F) (sym (drop-length s))
 
   -- a long line begun: the rest of it is to be skipped
-  long-means : feedIn (drop at s) ≡ 0 → 512 ≤ length (drop at s) → Means false (replyText s noReply) true (length s)
-  long-means f h = go (drop at s) refl f h
+  long-first : feedIn (drop at s) ≡ 0 → 512 ≤ length (drop at s) → First noRequestText (record { next = length s; skipping = true })
+  long-first f h = go (drop at s) refl f h
     where
-      go : (l : List ℕ) → drop at s ≡ l → feedIn l ≡ 0 → 512 ≤ length l → answersOf (l ++ F) ≡ replyText s noReply ++ answersOf (afterFeed (drop (length s) s ++ F))
+      go : (l : List ℕ) → drop at s ≡ l → feedIn l ≡ 0 → 512 ≤ length l → First noRequestText (record { next = length s; skipping = true })
       go [] e f h = absurd (omega arith)
-      go (b ∷ l) e f h =
-          first-answered (b ∷ (l ++ F)) (b ∷ (l ++ restBy (feedIn F) F)) (afterFeed F) (replyText s noReply) (lines-begun b l F f)
-          (no-request (b ∷ (l ++ restBy (feedIn F) F)) (λ kind key bands t. refused (feedIn (restBy (feedIn F) F)) refl kind key bands t)
-          ∙ sym (reply-none s noReply refl))
-          ∙ ap (λ (x : List ℕ). replyText s noReply ++ answersOf (afterFeed x)) (at-end F)
+      go (b ∷ l) e f h = record {
+        line = b ∷ (l ++ restBy (feedIn F) F);
+        rest = afterFeed F;
+        lines = ap (λ (x : List ℕ). linesOf (x ++ F)) e ∙ lines-begun b l F f;
+        answer = no-request (b ∷ (l ++ restBy (feedIn F) F)) (λ kind key bands t. refused (feedIn (restBy (feedIn F) F)) refl kind key bands t);
+        behind = ap (λ (x : List ℕ). answersOf (afterFeed x)) (at-end F);
+      }
         where
           refused : (n : ℕ) → feedIn (restBy (feedIn F) F) ≡ n → (kind : Kind) (key : List ℕ) (bands : List Band) → IsText (b ∷ (l ++ restBy (feedIn F) F)) kind key bands → ⊥
           refused zero q kind key bands t =
@@ -200,34 +219,33 @@ module _ (s : List ℕ) (at : ℕ) (F : List ℕ) where
               omega (arith, text-feed (b ∷ (l ++ restBy (feedIn F) F)) kind key bands t, feed-behind (b ∷ l) (restBy (feedIn F) F) f ∙ ap (movedBy (suc (length l))) q, t .short)
 
   -- what is left when the input ends
-  last-means : F ≡ [] → feedIn (drop at s) ≡ 0 → at < length s → Means false (replyText s noReply) false (length s)
+  last-first : F ≡ [] → feedIn (drop at s) ≡ 0 → at < length s → First noRequestText (record { next = length s; skipping = false })
   unfolding linesOf
-  last-means e f h = go (drop at s) refl f
+  last-first e f h = go (drop at s) refl f
     where
-      go : (l : List ℕ) → drop at s ≡ l → feedIn l ≡ 0 → answersOf (l ++ F) ≡ replyText s noReply ++ answersOf (drop (length s) s ++ F)
+      go : (l : List ℕ) → drop at s ≡ l → feedIn l ≡ 0 → First noRequestText (record { next = length s; skipping = false })
       go [] q f = absurd (omega (arith, length-drop at s, ap length q))
-      go (b ∷ l) q f =
-          ap (λ (x : List ℕ). answersOf ((b ∷ l) ++ x)) e ∙ ap answersOf (append-nil (b ∷ l))
-          ∙ first-answered (b ∷ l) (b ∷ l) [] (replyText s noReply) (lines-last b l f ∙ nothing-after)
-          (unended (b ∷ l) f (omega arith) ∙ sym (reply-none s noReply refl))
-          ∙ ap (λ (x : List ℕ). replyText s noReply ++ answersOf x) (sym e ∙ at-end F)
-        where
-          nothing-after : _≡_ {A = List (List ℕ)} ((b ∷ l) ∷ []) ((b ∷ l) ∷ linesOf [])
-          nothing-after = refl
+      go (b ∷ l) q f = record {
+        line = b ∷ l;
+        rest = [];
+        lines = ap (λ (x : List ℕ). linesOf (x ++ F)) q ∙ ap (λ (x : List ℕ). linesOf ((b ∷ l) ++ x)) e ∙ ap linesOf (append-nil (b ∷ l)) ∙ lines-last b l f;
+        answer = unended (b ∷ l) f (omega arith);
+        behind = ap answersOf (sym e ∙ at-end F);
+      }
 
   -- the next piece
-  abbrev Told : Piece → Type 0
-  Told p = (p .next ≡ at → ⊥) → Means false (replyText s (p .reply)) (p .skipping) (p .next)
-
-  piece-means : (last : Bool) → at < length s → (last ≡ true → F ≡ []) → Told (pieceAt s at last)
+  pub piece-first : (last : Bool) → at < length s → (last ≡ true → F ≡ []) → (pieceAt s at last (replyAt s at .next) .next ≡ at → ⊥)
+      → First (replyText s (replyAt s at)) (pieceAt s at last (replyAt s at .next))
   unfolding pieceAt feedAfter
-  piece-means last h e = by-reply (eqb (replyAt s at .next) 0) refl
+  piece-first last h e = by-reply (replyAt s at .next) refl
     where
+      Told : Piece → Type 0
+      Told p = (p .next ≡ at → ⊥) → First noRequestText p
+
       by-rest : (t u : Bool) → leb (at + 512) (length s) ≡ t → last ≡ u → feedIn (drop at s) ≡ 0
-          → Told (cond t (record { next = length s; skipping = true; reply = noReply })
-          (cond u (record { next = length s; skipping = false; reply = noReply }) (record { next = at; skipping = false; reply = noReply })))
-      by-rest true u p q f n = long-means f (omega (arith, leb-true (at + 512) (length s) p, length-drop at s))
-      by-rest false true p q f n = last-means (e q) f h
+          → Told (cond t (record { next = length s; skipping = true }) (cond u (record { next = length s; skipping = false }) (record { next = at; skipping = false })))
+      by-rest true u p q f n = long-first f (omega (arith, leb-true (at + 512) (length s) p, length-drop at s))
+      by-rest false true p q f n = last-first (e q) f h
       by-rest false false p q f n = absurd (n refl)
 
       by-feed : replyAt s at .next ≡ 0 → (n : ℕ) → feedIn (drop at s) ≡ n → Told (feedPiece at (length s) (movedBy at n) last)
@@ -236,21 +254,25 @@ module _ (s : List ℕ) (at : ℕ) (F : List ℕ) where
         where
           by-next : (k : ℕ) → at + suc w ≡ k → Told (feedPiece at (length s) k last)
           by-next zero q n = absurd (omega arith)
-          by-next (suc k) q n = none-means (omega arith) z w f ∙ ap (λ (j : ℕ). replyText s noReply ++ answersOf (drop j s ++ F)) q
+          by-next (suc k) q n = subst (λ (j : ℕ). First noRequestText (record { next = j; skipping = false })) q (none-first (omega arith) z w f)
 
-      by-reply : (t : Bool) → eqb (replyAt s at .next) 0 ≡ t
-          → Told (cond t (feedPiece at (length s) (movedBy at (feedIn (drop at s))) last) (record { next = replyAt s at .next; skipping = false; reply = replyAt s at }))
-      by-reply true p n = by-feed (eqb-true (replyAt s at .next) 0 p) (feedIn (drop at s)) refl n
-      by-reply false p n = reply-means (eqb-false (replyAt s at .next) 0 p)
+      by-reply : (n : ℕ) → replyAt s at .next ≡ n → (pieceAt s at last n .next ≡ at → ⊥) → First (replyText s (replyAt s at)) (pieceAt s at last n)
+      by-reply zero p n =
+          subst (λ (x : List ℕ). First x (pieceAt s at last 0)) (sym (reply-none s (replyAt s at) p)) (by-feed p (feedIn (drop at s)) refl n)
+      by-reply (suc k) p n =
+          subst (λ (j : ℕ). First (replyText s (replyAt s at)) (record { next = j; skipping = false })) p
+          (reply-first (λ z. omega arith))
 
   -- a turn
   pub step-means : (room : ℕ) (skip last : Bool) → at < length s → (last ≡ true → F ≡ [])
       → Means skip (stepAt s at room skip last .text) (stepAt s at room skip last .skipping) (stepAt s at room skip last .next)
   unfolding stepAt
   step-means room true last h e = skip-means (omega arith)
-  step-means room false last h e =
-      go (eqb (pieceAt s at last .next) at) (leb (length (replyText s (pieceAt s at last .reply))) room) refl
+  step-means room false last h e = go (eqb (piece .next) at) (leb (length (replyText s (replyAt s at))) room) refl
     where
+      piece : Piece
+      piece = pieceAt s at last (replyAt s at .next)
+
       abbrev-step : Step → Type 0
       abbrev-step x = Means false (x .text) (x .skipping) (x .next)
 
@@ -258,11 +280,14 @@ module _ (s : List ℕ) (at : ℕ) (F : List ℕ) where
       still = record { next = at; text = []; skipping = false }
 
       told : Step
-      told = record { next = pieceAt s at last .next; text = replyText s (pieceAt s at last .reply); skipping = pieceAt s at last .skipping }
+      told = record { next = piece .next; text = replyText s (replyAt s at); skipping = piece .skipping }
 
-      go : (t u : Bool) → eqb (pieceAt s at last .next) at ≡ t → abbrev-step (cond t still (cond u told still))
+      go : (t u : Bool) → eqb (piece .next) at ≡ t → abbrev-step (cond t still (cond u told still))
       go true u q = refl
-      go false true q = piece-means last h e (eqb-false (pieceAt s at last .next) at q)
+      go false true q =
+          let f = piece-first last h e (eqb-false (piece .next) at q) in
+          first-answered (drop at s ++ F) (f .line) (f .rest) (replyText s (replyAt s at)) (f .lines) (f .answer)
+          ∙ ap (λ (x : List ℕ). replyText s (replyAt s at) ++ x) (f .behind)
       go false false q = refl
 
 -- ---- a block, whatever follows the part
@@ -432,16 +457,15 @@ reply-fits s at room m (asked kind key bands next) g = go (leb next (at + 512)) 
     go false e = none-fits s room m
 
 module _ (s : List ℕ) (room : ℕ) (m : Roomy room) (some : 0 < length s) where
-  wait-piece : (last : Bool) → pieceAt s 0 last .next ≡ 0 → Waiting s false last
+  wait-piece : (last : Bool) → pieceAt s 0 last (replyAt s 0 .next) .next ≡ 0 → Waiting s false last
   unfolding pieceAt feedAfter
-  wait-piece last = by-reply (eqb (replyAt s 0 .next) 0) refl
+  wait-piece last = by-reply (replyAt s 0 .next)
     where
       Still : Piece → Type 0
       Still p = p .next ≡ 0 → Waiting s false last
 
       by-rest : (t u : Bool) → leb (0 + 512) (length s) ≡ t → last ≡ u → feedIn s ≡ 0
-          → Still (cond t (record { next = length s; skipping = true; reply = noReply })
-          (cond u (record { next = length s; skipping = false; reply = noReply }) (record { next = 0; skipping = false; reply = noReply })))
+          → Still (cond t (record { next = length s; skipping = true }) (cond u (record { next = length s; skipping = false }) (record { next = 0; skipping = false })))
       by-rest true u p q f z = absurd (omega arith)
       by-rest false true p q f z = absurd (omega arith)
       by-rest false false p q f z = record { free = refl; open-end = q; no-line = f; short = omega (arith, leb-false (0 + 512) (length s) p) }
@@ -454,58 +478,33 @@ module _ (s : List ℕ) (room : ℕ) (m : Roomy room) (some : 0 < length s) wher
           by-next zero q z = absurd (omega arith)
           by-next (suc k) q z = absurd (omega arith)
 
-      by-reply : (t : Bool) → eqb (replyAt s 0 .next) 0 ≡ t
-          → Still (cond t (feedPiece 0 (length s) (movedBy 0 (feedIn s)) last) (record { next = replyAt s 0 .next; skipping = false; reply = replyAt s 0 }))
-      by-reply true p z = by-feed (feedIn s) refl z
-      by-reply false p z = absurd (eqb-false (replyAt s 0 .next) 0 p z)
-
-  piece-fits : (last : Bool) → length (replyText s (pieceAt s 0 last .reply)) ≤ room
-  unfolding pieceAt replyAt feedAfter
-  piece-fits last = by-reply (eqb (replyTo 0 (requestAt s 0) .next) 0)
-    where
-      Fits : Piece → Type 0
-      Fits p = length (replyText s (p .reply)) ≤ room
-
-      by-rest : (t u : Bool) → Fits (cond t (record { next = length s; skipping = true; reply = noReply })
-          (cond u (record { next = length s; skipping = false; reply = noReply }) (record { next = 0; skipping = false; reply = noReply })))
-      by-rest true u = none-fits s room m
-      by-rest false true = none-fits s room m
-      by-rest false false = none-fits s room m
-
-      by-feed : (k : ℕ) → Fits (feedPiece 0 (length s) k last)
-      by-feed zero = by-rest (leb (0 + 512) (length s)) last
-      by-feed (suc k) = none-fits s room m
-
-      by-reply : (t : Bool) → Fits (cond t (feedPiece 0 (length s) (movedBy 0 (feedIn s)) last)
-          (record { next = replyTo 0 (requestAt s 0) .next; skipping = false; reply = replyTo 0 (requestAt s 0) }))
-      by-reply true = by-feed (movedBy 0 (feedIn s))
-      by-reply false = reply-fits s 0 room m (requestAt s 0) (request-ok s 0)
+      by-reply : (n : ℕ) → Still (pieceAt s 0 last n)
+      by-reply zero z = by-feed (feedIn s) refl z
+      by-reply (suc n) z = absurd (omega arith)
 
   wait-step : (skip last : Bool) → stepAt s 0 room skip last .next ≡ 0 → Waiting s skip last
-  unfolding stepAt
+  unfolding stepAt replyAt
   wait-step true last = go (feedAfter s 0)
     where
       go : (n : ℕ) → skipBy (length s) n .next ≡ 0 → Waiting s true last
       go zero z = absurd (omega arith)
       go (suc n) z = absurd (omega arith)
-  wait-step false last = go (eqb (pieceAt s 0 last .next) 0) refl
+  wait-step false last = go (eqb (piece .next) 0) refl
     where
-      Still : Step → Type 0
-      Still x = x .next ≡ 0 → Waiting s false last
+      piece : Piece
+      piece = pieceAt s 0 last (replyAt s 0 .next)
 
-      go : (t : Bool) → eqb (pieceAt s 0 last .next) 0 ≡ t
-          → Still (cond t (record { next = 0; text = []; skipping = false })
-          (cond (leb (length (replyText s (pieceAt s 0 last .reply))) room)
-          (record { next = pieceAt s 0 last .next; text = replyText s (pieceAt s 0 last .reply); skipping = pieceAt s 0 last .skipping })
-          (record { next = 0; text = []; skipping = false })))
-      go true e z = wait-piece last (eqb-true (pieceAt s 0 last .next) 0 e)
+      still : Step
+      still = record { next = 0; text = []; skipping = false }
+
+      told : Step
+      told = record { next = piece .next; text = replyText s (replyAt s 0); skipping = piece .skipping }
+
+      go : (t : Bool) → eqb (piece .next) 0 ≡ t → cond t still (cond (leb (length (replyText s (replyAt s 0))) room) told still) .next ≡ 0 → Waiting s false last
+      go true e z = wait-piece last (eqb-true (piece .next) 0 e)
       go false e z =
-          absurd (eqb-false (pieceAt s 0 last .next) 0 e
-          (sym (ap (λ (b : Bool). the (cond b (record { next = pieceAt s 0 last .next; text = replyText s (pieceAt s 0 last .reply); skipping = pieceAt s 0 last .skipping })
-          (record { next = 0; text = []; skipping = false }))) (le-leb (length (replyText s (pieceAt s 0 last .reply))) room (piece-fits last))) ∙ z))
-        where
-          the : Step → ℕ
-          the x = x .next
+          absurd (eqb-false (piece .next) 0 e
+          (sym (ap (λ (b : Bool). cond b told still .next) (le-leb (length (replyText s (replyAt s 0))) room (reply-fits s 0 room m (requestAt s 0) (request-ok s 0)))) ∙ z))
 
   -- "answers all whole lines .. for which the output has room": a call that takes nothing waits for more
   pub gets-on : (skip last : Bool) → blockOf s room skip last .used ≡ 0 → Waiting s skip last
