@@ -5,7 +5,7 @@ use mathlib.Core.Bool.{Bool, true, false, cond}
 use mathlib.Core.List.{List, [], _∷_, _++_, append-assoc, append-nil}
 use Prim.Native.Nat.{ℕ, zero, suc, _+_, _-_, _≤_, _<_}
 use native.Mathlib.Omega.{arith}
-use borrow.Author.Tests.{le-leb, leb-true, leb-false, ltb-true, ltb-false, eqb-true, eqb-false}
+use borrow.Author.Tests.{le-leb, leb-true, ltb-true, ltb-false, eqb-true, eqb-false}
 use lib.Dec.{leb, ltb, eqb}
 use lib.ListN.{length, take, drop, length-drop, take-append-drop}
 use lib.Seq.{drop-drop, length-take-le, drop-length}
@@ -25,14 +25,14 @@ use Rattle.request.specs.Reading.Request.{request}
 use Rattle.reply.specs.Answers.{judged, answerTo, answerOf, noReply, replyTo, replyAt, replyText}
 use Rattle.line.specs.Answers.{linesOf, answersTo, answersOf}
 use Rattle.line.specs.Blocks.{feedIn, movedBy, feedAfter, feedPiece, pieceAt, Step, skipBy, stepAt, Block, blockFrom, blockOf, afterFeed, answersFrom, Run}
-use Rattle.line.specs.Blocks.Run.{done, part, end}
+use Rattle.line.specs.Blocks.Run.{done, read, part, end}
 use Rattle.request.proofs.Stands.{Stands, taken}
 use Rattle.request.proofs.Wholes.{RequestAt, RequestGood, request-ok, request-here, part-stands, text-length, IsText, text-of, means}
 use Rattle.reply.proofs.Replies.{reply-none}
 use Rattle.line.proofs.Placing.{reply-text}
 use Rattle.line.proofs.Turns.{feed-most}
 use Rattle.line.proofs.Runs.{step-ahead, block-out, block-still, block-on}
-use Rattle.line.proofs.Feeds.{feeds, feeds-join, feeds-cons, decimal-feeds, kind-feeds, key-feeds, minus-feeds, Plain, line-feeds, feed-before, feed-behind, request-end, lines-first, lines-last, lines-begun, after-none, after-first, restBy}
+use Rattle.line.proofs.Feeds.{feeds, feeds-join, decimal-feeds, kind-feeds, key-feeds, minus-feeds, Plain, line-feeds, feed-before, feed-behind, request-end, lines-first, lines-last, lines-begun, after-none, after-first, restBy}
 
 -- ---- a line that is no request, and one that is
 -- a request ends at its first line feed and is short
@@ -40,7 +40,7 @@ text-feed : (line : List ℕ) (kind : Kind) (key : List ℕ) (bands : List Band)
 text-feed line kind key bands t =
     ap feedIn (t .is) ∙ request-end kind key bands (t .key-ok .each) ∙ ap length (sym (t .is))
 
-no-request : (line : List ℕ) → ((kind : Kind) (key : List ℕ) (bands : List Band) → IsText line kind key bands → ⊥) → answerOf line ≡ noRequestText
+pub no-request : (line : List ℕ) → ((kind : Kind) (key : List ℕ) (bands : List Band) → IsText line kind key bands → ⊥) → answerOf line ≡ noRequestText
 unfolding answerOf
 no-request line f = go (requestOf line) refl
   where
@@ -74,7 +74,7 @@ module _ (s : List ℕ) (at : ℕ) where
         ∙ ap (λ (l : List ℕ). l ++ drop (length text) (drop at s)) text-there
         ∙ ap (λ (l : List ℕ). text ++ l) (drop-drop (length text) at s ∙ ap (λ (k : ℕ). drop k s) (sym (g .ends)))
 
-    feed-there : feedIn (drop at s) ≡ length text
+    pub feed-there : feedIn (drop at s) ≡ length text
     feed-there = by (length text) refl
       where
         by : (n : ℕ) → length text ≡ n → feedIn (drop at s) ≡ length text
@@ -330,10 +330,10 @@ run-means : {pending : List ℕ} {skip : Bool} {future out : List ℕ} → Run p
 unfolding afterFeed
 run-means (done {skipping = true}) = sym answers-none
 run-means (done {skipping = false}) = sym answers-none
-run-means (part pending chunk future skip room out r) =
-    ap (λ (l : List ℕ). blockOf (pending ++ chunk) room skip false .text ++ l) (run-means r)
-    ∙ sym (block-means (pending ++ chunk) room skip false future (λ e. absurd (never e)))
-    ∙ ap (answersFrom skip) (append-assoc pending chunk future)
+run-means (read pending chunk future skip out r) = run-means r ∙ ap (answersFrom skip) (append-assoc pending chunk future)
+run-means (part pending future skip room out r) =
+    ap (λ (l : List ℕ). blockOf pending room skip false .text ++ l) (run-means r)
+    ∙ sym (block-means pending room skip false future (λ e. absurd (never e)))
   where
     never : _≡_ {A = Bool} false true → ⊥
     never e = let z : _≡_ {A = ℕ} 0 1 = cc in omega arith
@@ -388,143 +388,3 @@ lines-feeds (l ∷ ls) = feeds-join (answerOf l) (answersTo ls) ∙ omega (arith
 pub one-for-each : (input : List ℕ) → feeds (answersOf input) ≡ length (linesOf input)
 unfolding answersOf
 one-for-each input = lines-feeds (linesOf input)
-
-nothing-feeds : feeds [] ≡ 0
-unfolding feeds
-nothing-feeds = refl
-
--- ---- every call gets on: with room for any one answer, it takes nothing only where nothing whole is there
-pub record Roomy (room : ℕ) : Type 0 where
-  pub most : (line : List ℕ) → length (answerOf line) ≤ room
-
-pub record Waiting (s : List ℕ) (skip last : Bool) : Type 0 where
-  pub free : skip ≡ false
-  pub open-end : last ≡ false
-  pub no-line : feedIn s ≡ 0
-  pub short : length s < 512
-
-from-ahead : (n : ℕ) (s : List ℕ) (room at : ℕ) (text : List ℕ) (skip last : Bool) → at ≤ length s → at ≤ blockFrom n s room at text skip last .used
-unfolding blockFrom
-from-ahead zero s room at text skip last h = omega arith
-from-ahead (suc n) s room at text skip last h =
-    go (ltb at (length s)) (eqb (stepAt s at (room - length text) skip last .next) at) refl refl
-    (λ h'. from-ahead n s room (step .next) (text ++ step .text) (step .skipping) last h')
-  where
-    step : Step
-    step = stepAt s at (room - length text) skip last
-
-    go : (t u : Bool) → ltb at (length s) ≡ t → eqb (stepAt s at (room - length text) skip last .next) at ≡ u
-        → (step .next ≤ length s → step .next ≤ blockFrom n s room (step .next) (text ++ step .text) (step .skipping) last .used)
-        → at ≤ blockFrom (suc n) s room at text skip last .used
-    go false u p q r = omega (arith, ap (λ (b : Block). b .used) (block-out s room at text skip last (suc n) (ltb-false at (length s) p)))
-    go true true p q r = omega (arith, ap (λ (b : Block). b .used) (block-still s room at text skip last (suc n) (eqb-true (step .next) at q)))
-    go true false p q r =
-        omega (
-          arith,
-          ap (λ (b : Block). b .used) (block-on s room at text skip last n (ltb-true at (length s) p) (eqb-false (step .next) at q)),
-          r (step-ahead s at (room - length text) skip last h .1),
-          step-ahead s at (room - length text) skip last h,
-        )
-
--- the text of a reply is the answer of some line
-none-fits : (s : List ℕ) (room : ℕ) → Roomy room → length (replyText s noReply) ≤ room
-none-fits s room m =
-    omega (arith, m .most (0 ∷ []), ap length (reply-none s noReply refl ∙ sym (unended (0 ∷ []) no-end (omega arith))))
-  where
-    no-end : feedIn (0 ∷ []) ≡ 0
-    no-end = Rattle.line.proofs.Feeds.no-feed (0 ∷ []) (feeds-cons 0 [] (omega arith) ∙ empty)
-      where
-        empty : feeds [] ≡ 0
-        empty = nothing-feeds
-
-reply-fits : (s : List ℕ) (at room : ℕ) → Roomy room → (a : Asked) → RequestGood s at a → length (replyText s (replyTo at a)) ≤ room
-unfolding replyTo
-reply-fits s at room m Asked.nothing g = none-fits s room m
-reply-fits s at room m (asked kind key bands next) g = go (leb next (at + 512)) refl
-  where
-    reply : Reply
-    reply = record { next = next; kind = kind; key = at + 3; len = length key; rated = judged kind bands }
-
-    go : (t : Bool) → leb next (at + 512) ≡ t → length (replyText s (cond t reply noReply)) ≤ room
-    go true e =
-        omega (
-          arith,
-          m .most (requestText kind key bands),
-          ap length (answer-there s at kind key bands next g (leb-true next (at + 512) e)
-              ∙ ap (λ (l : List ℕ). ratedText kind l (judged kind bands)) (g .key-is)
-              ∙ sym (reply-text s reply (λ z. omega (arith, g .ends, text-length kind key bands)))),
-        )
-    go false e = none-fits s room m
-
-module _ (s : List ℕ) (room : ℕ) (m : Roomy room) (some : 0 < length s) where
-  wait-piece : (last : Bool) → pieceAt s 0 last (replyAt s 0 .next) .next ≡ 0 → Waiting s false last
-  unfolding pieceAt feedAfter
-  wait-piece last = by-reply (replyAt s 0 .next)
-    where
-      Still : Piece → Type 0
-      Still p = p .next ≡ 0 → Waiting s false last
-
-      by-rest : (t u : Bool) → leb (0 + 512) (length s) ≡ t → last ≡ u → feedIn s ≡ 0
-          → Still (cond t (record { next = length s; skipping = true }) (cond u (record { next = length s; skipping = false }) (record { next = 0; skipping = false })))
-      by-rest true u p q f z = absurd (omega arith)
-      by-rest false true p q f z = absurd (omega arith)
-      by-rest false false p q f z = record { free = refl; open-end = q; no-line = f; short = omega (arith, leb-false (0 + 512) (length s) p) }
-
-      by-feed : (n : ℕ) → feedIn s ≡ n → Still (feedPiece 0 (length s) (movedBy 0 n) last)
-      by-feed zero f = by-rest (leb (0 + 512) (length s)) last refl refl f
-      by-feed (suc w) f = by-next (0 + suc w) refl
-        where
-          by-next : (k : ℕ) → 0 + suc w ≡ k → Still (feedPiece 0 (length s) k last)
-          by-next zero q z = absurd (omega arith)
-          by-next (suc k) q z = absurd (omega arith)
-
-      by-reply : (n : ℕ) → Still (pieceAt s 0 last n)
-      by-reply zero z = by-feed (feedIn s) refl z
-      by-reply (suc n) z = absurd (omega arith)
-
-  wait-step : (skip last : Bool) → stepAt s 0 room skip last .next ≡ 0 → Waiting s skip last
-  unfolding stepAt replyAt
-  wait-step true last = go (feedAfter s 0)
-    where
-      go : (n : ℕ) → skipBy (length s) n .next ≡ 0 → Waiting s true last
-      go zero z = absurd (omega arith)
-      go (suc n) z = absurd (omega arith)
-  wait-step false last = go (eqb (piece .next) 0) refl
-    where
-      piece : Piece
-      piece = pieceAt s 0 last (replyAt s 0 .next)
-
-      still : Step
-      still = record { next = 0; text = []; skipping = false }
-
-      told : Step
-      told = record { next = piece .next; text = replyText s (replyAt s 0); skipping = piece .skipping }
-
-      go : (t : Bool) → eqb (piece .next) 0 ≡ t → cond t still (cond (leb (length (replyText s (replyAt s 0))) room) told still) .next ≡ 0 → Waiting s false last
-      go true e z = wait-piece last (eqb-true (piece .next) 0 e)
-      go false e z =
-          absurd (eqb-false (piece .next) 0 e
-          (sym (ap (λ (b : Bool). cond b told still .next) (le-leb (length (replyText s (replyAt s 0))) room (reply-fits s 0 room m (requestAt s 0) (request-ok s 0)))) ∙ z))
-
-  -- "answers all whole lines .. for which the output has room": a call that takes nothing waits for more
-  pub gets-on : (skip last : Bool) → blockOf s room skip last .used ≡ 0 → Waiting s skip last
-  unfolding blockOf
-  gets-on skip last e = by-length (length s) refl e
-    where
-      by-length : (n : ℕ) → length s ≡ n → blockFrom n s room 0 [] skip last .used ≡ 0 → Waiting s skip last
-      by-length zero f e = absurd (omega arith)
-      by-length (suc n) f e = by-step (eqb (stepAt s 0 (room - 0) skip last .next) 0) refl
-        where
-          same : stepAt s 0 (room - 0) skip last ≡ stepAt s 0 room skip last
-          same = ap (λ (k : ℕ). stepAt s 0 k skip last) (all room)
-            where
-              all : (k : ℕ) → k - 0 ≡ k
-              all k = omega arith
-
-          by-step : (t : Bool) → eqb (stepAt s 0 (room - 0) skip last .next) 0 ≡ t → Waiting s skip last
-          by-step true q = wait-step skip last (sym (ap (λ (x : Step). x .next) same) ∙ eqb-true (stepAt s 0 (room - 0) skip last .next) 0 q)
-          by-step false q =
-              let step : Step = stepAt s 0 (room - 0) skip last in
-              let on : blockFrom (suc n) s room 0 [] skip last .used ≡ blockFrom n s room (step .next) ([] ++ step .text) (step .skipping) last .used =
-              ap (λ (b : Block). b .used) (block-on s room 0 [] skip last n some (eqb-false (step .next) 0 q)) in
-              absurd (eqb-false (step .next) 0 q (omega (arith, on, from-ahead n s room (step .next) ([] ++ step .text) (step .skipping) last (step-ahead s 0 (room - 0) skip last (omega arith) .1))))

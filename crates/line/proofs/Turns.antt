@@ -109,7 +109,7 @@ module _ (s : List ℕ) (at : ℕ) (last : Bool) (next : ℕ) where
       piece-wait h l = by-rest (record { next = at; skipping = false }) (rw (lt-leb (at + 512) (length s) (omega arith), l))
 
 -- a reply's request lies ahead, and within
-reply-ahead : (s : List ℕ) (at : ℕ) → (replyAt s at .next ≡ 0 → ⊥) → (at < replyAt s at .next) × (replyAt s at .next ≤ length s)
+pub reply-ahead : (s : List ℕ) (at : ℕ) → (replyAt s at .next ≡ 0 → ⊥) → (at < replyAt s at .next) × (replyAt s at .next ≤ length s)
 unfolding replyAt replyTo
 reply-ahead s at = go (requestAt s at) (request-ok s at)
   where

@@ -113,13 +113,16 @@ answersFrom true s = answersOf (afterFeed s)
 answersFrom false s = answersOf s
 
 -- A run by block calls: `pending` bytes wait, `skipping` is carried, `future` is still to come, and `out` is all that is
--- written from here on. Each call takes any further part of the input into what waits, with any room; once the input has
--- ended, calls may say so.
+-- written from here on. Any further part of the input may be read into what waits; a call answers what waits, with any room;
+-- once the input has ended, calls may say so.
 pub data Run : List ℕ → Bool → List ℕ → List ℕ → Type 0 where
   done : {skipping : Bool} → Run [] skipping [] []
-  part : (pending chunk future : List ℕ) (skipping : Bool) (room : ℕ) (out : List ℕ)
-      → Run (drop (blockOf (pending ++ chunk) room skipping false .used) (pending ++ chunk)) (blockOf (pending ++ chunk) room skipping false .skipping) future out
-      → Run pending skipping (chunk ++ future) (blockOf (pending ++ chunk) room skipping false .text ++ out)
+  read : (pending chunk future : List ℕ) (skipping : Bool) (out : List ℕ)
+      → Run (pending ++ chunk) skipping future out
+      → Run pending skipping (chunk ++ future) out
+  part : (pending future : List ℕ) (skipping : Bool) (room : ℕ) (out : List ℕ)
+      → Run (drop (blockOf pending room skipping false .used) pending) (blockOf pending room skipping false .skipping) future out
+      → Run pending skipping future (blockOf pending room skipping false .text ++ out)
   end : (pending : List ℕ) (skipping : Bool) (room : ℕ) (out : List ℕ)
       → Run (drop (blockOf pending room skipping true .used) pending) (blockOf pending room skipping true .skipping) [] out
       → Run pending skipping [] (blockOf pending room skipping true .text ++ out)
