@@ -1,3 +1,2 @@
 -- Laws of the open library.
 pub mod Joined
-pub mod Lengths

@@ -24,7 +24,7 @@ use Rattle.rating.specs.Sheets.{asked, sheetOf, ratedOf}
 use Rattle.products.specs.declared.grades.Side.{Side}
 use Rattle.means.specs.Sets.{specimensOf}
 use Rattle.products.specs.Grades.{gradeOf, decidingOf, gradedBy, graded, gradesOf}
-use Rattle.products.proofs.Small.{shifts-most}
+use Rattle.rating.proofs.Small.{shifts-most}
 use Rattle.door.specs.Given.{Fitting, GradeFits}
 use Rattle.desk.specs.Calls.{ratedBy, readingsRated}
 

@@ -5,9 +5,9 @@ use mathlib.Core.Bool.{Bool, true, false, cond}
 use mathlib.Core.List.{List, [], _∷_, _++_, append-assoc, append-nil}
 use Prim.Native.Nat.{ℕ, zero, suc, _+_, _-_, _≤_, _<_}
 use native.Mathlib.Omega.{arith}
-use borrow.Author.Tests.{le-leb, leb-true, leb-false, ltb-true, ltb-false, eqb-true, eqb-false}
+use borrow.Author.Tests.{le-leb, leb-true, ltb-true, ltb-false, eqb-true, eqb-false}
 use lib.Dec.{leb, ltb, eqb}
-use lib.ListN.{length, take, drop, length-drop, length-take, take-append-drop}
+use lib.ListN.{length, take, drop, length-drop, take-append-drop}
 use lib.Seq.{drop-drop, length-take-le, drop-length}
 use Rattle.rating.specs.declared.kinds.Kind.{Kind}
 use Rattle.rating.specs.declared.sheets.Rated.{Rated}
@@ -25,14 +25,14 @@ use Rattle.request.specs.Reading.Request.{request}
 use Rattle.reply.specs.Answers.{judged, answerTo, answerOf, noReply, replyTo, replyAt, replyText}
 use Rattle.line.specs.Answers.{linesOf, answersTo, answersOf}
 use Rattle.line.specs.Blocks.{feedIn, movedBy, feedAfter, feedPiece, pieceAt, Step, skipBy, stepAt, Block, blockFrom, blockOf, afterFeed, answersFrom, Run}
-use Rattle.line.specs.Blocks.Run.{done, part, end}
-use Rattle.request.proofs.Stands.{Stands, taken, fits}
+use Rattle.line.specs.Blocks.Run.{done, read, part, end}
+use Rattle.request.proofs.Stands.{Stands, taken}
 use Rattle.request.proofs.Wholes.{RequestAt, RequestGood, request-ok, request-here, part-stands, text-length, IsText, text-of, means}
 use Rattle.reply.proofs.Replies.{reply-none}
 use Rattle.line.proofs.Placing.{reply-text}
 use Rattle.line.proofs.Turns.{feed-most}
 use Rattle.line.proofs.Runs.{step-ahead, block-out, block-still, block-on}
-use Rattle.line.proofs.Feeds.{feeds, feeds-join, feeds-cons, decimal-feeds, kind-feeds, key-feeds, minus-feeds, Plain, line-feeds, feed-before, feed-behind, request-end, lines-first, lines-last, lines-begun, after-none, after-first, restBy}
+use Rattle.line.proofs.Feeds.{feeds, feeds-join, decimal-feeds, kind-feeds, key-feeds, minus-feeds, Plain, line-feeds, feed-before, feed-behind, request-end, lines-first, lines-last, lines-begun, after-none, after-first, restBy}
 
 -- ---- a line that is no request, and one that is
 -- a request ends at its first line feed and is short
@@ -40,7 +40,7 @@ text-feed : (line : List ℕ) (kind : Kind) (key : List ℕ) (bands : List Band)
 text-feed line kind key bands t =
     ap feedIn (t .is) ∙ request-end kind key bands (t .key-ok .each) ∙ ap length (sym (t .is))
 
-no-request : (line : List ℕ) → ((kind : Kind) (key : List ℕ) (bands : List Band) → IsText line kind key bands → ⊥) → answerOf line ≡ noRequestText
+pub no-request : (line : List ℕ) → ((kind : Kind) (key : List ℕ) (bands : List Band) → IsText line kind key bands → ⊥) → answerOf line ≡ noRequestText
 unfolding answerOf
 no-request line f = go (requestOf line) refl
   where
@@ -74,7 +74,7 @@ module _ (s : List ℕ) (at : ℕ) where
         ∙ ap (λ (l : List ℕ). l ++ drop (length text) (drop at s)) text-there
         ∙ ap (λ (l : List ℕ). text ++ l) (drop-drop (length text) at s ∙ ap (λ (k : ℕ). drop k s) (sym (g .ends)))
 
-    feed-there : feedIn (drop at s) ≡ length text
+    pub feed-there : feedIn (drop at s) ≡ length text
     feed-there = by (length text) refl
       where
         by : (n : ℕ) → length text ≡ n → feedIn (drop at s) ≡ length text
@@ -150,48 +150,67 @@ module _ (s : List ℕ) (at : ℕ) (F : List ℕ) where
       go zero f = ap answersOf (after-none (drop at s) F f ∙ ap (λ (l : List ℕ). afterFeed (l ++ F)) (sym (drop-length s)))
       go (suc w) f = by-next w f (at + suc w) refl
 
+  -- the first line of what is left, with its answer, and what stands behind it
+  pub record First (text : List ℕ) (p : Piece) : Type 0 where
+    pub line : List ℕ
+    pub rest : List ℕ
+    pub lines : linesOf (drop at s ++ F) ≡ line ∷ linesOf rest
+    pub answer : answerOf line ≡ text
+    pub behind : answersOf rest ≡ answersFrom (p .skipping) (drop (p .next) s ++ F)
+
   -- a request
-  request-means : (a : Asked) → RequestGood s at a → (replyTo at a .next ≡ 0 → ⊥) → Means false (replyText s (replyTo at a)) false (replyTo at a .next)
+  request-first : (a : Asked) → RequestGood s at a → (replyTo at a .next ≡ 0 → ⊥)
+      → First (replyText s (replyTo at a)) (record { next = replyTo at a .next; skipping = false })
   unfolding replyTo
-  request-means Asked.nothing g z = absurd (z refl)
-  request-means (asked kind key bands next) g z = go (leb next (at + 512)) refl z
+  request-first Asked.nothing g z = absurd (z refl)
+  request-first (asked kind key bands next) g z = go (leb next (at + 512)) refl z
     where
       reply : Reply
       reply = record { next = next; kind = kind; key = at + 3; len = length key; rated = judged kind bands }
 
-      go : (t : Bool) → leb next (at + 512) ≡ t → (cond t reply noReply .next ≡ 0 → ⊥) → Means false (replyText s (cond t reply noReply)) false (cond t reply noReply .next)
-      go true e z =
-          first-answered (drop at s ++ F) (requestText kind key bands) (drop next s ++ F) (replyText s reply) (first-line s at kind key bands next g F)
-          (answer-there s at kind key bands next g (leb-true next (at + 512) e)
-          ∙ ap (λ (l : List ℕ). ratedText kind l (judged kind bands)) (g .key-is)
-          ∙ sym (reply-text s reply z))
+      go : (t : Bool) → leb next (at + 512) ≡ t → (cond t reply noReply .next ≡ 0 → ⊥)
+          → First (replyText s (cond t reply noReply)) (record { next = cond t reply noReply .next; skipping = false })
+      go true e z = record {
+        line = requestText kind key bands;
+        rest = drop next s ++ F;
+        lines = first-line s at kind key bands next g F;
+        answer = answer-there s at kind key bands next g (leb-true next (at + 512) e)
+            ∙ ap (λ (l : List ℕ). ratedText kind l (judged kind bands)) (g .key-is)
+            ∙ sym (reply-text s reply z);
+        behind = refl;
+      }
       go false e z = absurd (z refl)
 
-  reply-means : (replyAt s at .next ≡ 0 → ⊥) → Means false (replyText s (replyAt s at)) false (replyAt s at .next)
+  reply-first : (replyAt s at .next ≡ 0 → ⊥) → First (replyText s (replyAt s at)) (record { next = replyAt s at .next; skipping = false })
   unfolding replyAt
-  reply-means z = request-means (requestAt s at) (request-ok s at) z
+  reply-first z = request-first (requestAt s at) (request-ok s at) z
 
   -- a line that is none
-  none-means : at ≤ length s → replyAt s at .next ≡ 0 → (w : ℕ) → feedIn (drop at s) ≡ suc w → Means false (replyText s noReply) false (at + suc w)
-  none-means h z w f =
-      first-answered (drop at s ++ F) (take (suc w) (drop at s)) (drop (at + suc w) s ++ F) (replyText s noReply)
-      (lines-first (drop at s) F w f ∙ ap (λ (l : List ℕ). take (suc w) (drop at s) ∷ linesOf (l ++ F)) (feed-drop w))
-      (none-there s at w f h z ∙ sym (reply-none s noReply refl))
+  none-first : at ≤ length s → replyAt s at .next ≡ 0 → (w : ℕ) → feedIn (drop at s) ≡ suc w → First noRequestText (record { next = at + suc w; skipping = false })
+  none-first h z w f = record {
+    line = take (suc w) (drop at s);
+    rest = drop (at + suc w) s ++ F;
+    lines = lines-first (drop at s) F w f ∙ ap (λ (l : List ℕ). take (suc w) (drop at s) ∷ linesOf (l ++ F)) (feed-drop w);
+    answer = none-there s at w f h z;
+    behind = refl;
+  }
 
   at-end : (F : List ℕ) → F ≡ drop (length s) s ++ F
   at-end F = ap (λ (l : List ℕ). l ++ F) (sym (drop-length s))
 
   -- a long line begun: the rest of it is to be skipped
-  long-means : feedIn (drop at s) ≡ 0 → 512 ≤ length (drop at s) → Means false (replyText s noReply) true (length s)
-  long-means f h = go (drop at s) refl f h
+  long-first : feedIn (drop at s) ≡ 0 → 512 ≤ length (drop at s) → First noRequestText (record { next = length s; skipping = true })
+  long-first f h = go (drop at s) refl f h
     where
-      go : (l : List ℕ) → drop at s ≡ l → feedIn l ≡ 0 → 512 ≤ length l → answersOf (l ++ F) ≡ replyText s noReply ++ answersOf (afterFeed (drop (length s) s ++ F))
+      go : (l : List ℕ) → drop at s ≡ l → feedIn l ≡ 0 → 512 ≤ length l → First noRequestText (record { next = length s; skipping = true })
       go [] e f h = absurd (omega arith)
-      go (b ∷ l) e f h =
-          first-answered (b ∷ (l ++ F)) (b ∷ (l ++ restBy (feedIn F) F)) (afterFeed F) (replyText s noReply) (lines-begun b l F f)
-          (no-request (b ∷ (l ++ restBy (feedIn F) F)) (λ kind key bands t. refused (feedIn (restBy (feedIn F) F)) refl kind key bands t)
-          ∙ sym (reply-none s noReply refl))
-          ∙ ap (λ (x : List ℕ). replyText s noReply ++ answersOf (afterFeed x)) (at-end F)
+      go (b ∷ l) e f h = record {
+        line = b ∷ (l ++ restBy (feedIn F) F);
+        rest = afterFeed F;
+        lines = ap (λ (x : List ℕ). linesOf (x ++ F)) e ∙ lines-begun b l F f;
+        answer = no-request (b ∷ (l ++ restBy (feedIn F) F)) (λ kind key bands t. refused (feedIn (restBy (feedIn F) F)) refl kind key bands t);
+        behind = ap (λ (x : List ℕ). answersOf (afterFeed x)) (at-end F);
+      }
         where
           refused : (n : ℕ) → feedIn (restBy (feedIn F) F) ≡ n → (kind : Kind) (key : List ℕ) (bands : List Band) → IsText (b ∷ (l ++ restBy (feedIn F) F)) kind key bands → ⊥
           refused zero q kind key bands t =
@@ -200,34 +219,33 @@ module _ (s : List ℕ) (at : ℕ) (F : List ℕ) where
               omega (arith, text-feed (b ∷ (l ++ restBy (feedIn F) F)) kind key bands t, feed-behind (b ∷ l) (restBy (feedIn F) F) f ∙ ap (movedBy (suc (length l))) q, t .short)
 
   -- what is left when the input ends
-  last-means : F ≡ [] → feedIn (drop at s) ≡ 0 → at < length s → Means false (replyText s noReply) false (length s)
+  last-first : F ≡ [] → feedIn (drop at s) ≡ 0 → at < length s → First noRequestText (record { next = length s; skipping = false })
   unfolding linesOf
-  last-means e f h = go (drop at s) refl f
+  last-first e f h = go (drop at s) refl f
     where
-      go : (l : List ℕ) → drop at s ≡ l → feedIn l ≡ 0 → answersOf (l ++ F) ≡ replyText s noReply ++ answersOf (drop (length s) s ++ F)
+      go : (l : List ℕ) → drop at s ≡ l → feedIn l ≡ 0 → First noRequestText (record { next = length s; skipping = false })
       go [] q f = absurd (omega (arith, length-drop at s, ap length q))
-      go (b ∷ l) q f =
-          ap (λ (x : List ℕ). answersOf ((b ∷ l) ++ x)) e ∙ ap answersOf (append-nil (b ∷ l))
-          ∙ first-answered (b ∷ l) (b ∷ l) [] (replyText s noReply) (lines-last b l f ∙ nothing-after)
-          (unended (b ∷ l) f (omega arith) ∙ sym (reply-none s noReply refl))
-          ∙ ap (λ (x : List ℕ). replyText s noReply ++ answersOf x) (sym e ∙ at-end F)
-        where
-          nothing-after : _≡_ {A = List (List ℕ)} ((b ∷ l) ∷ []) ((b ∷ l) ∷ linesOf [])
-          nothing-after = refl
+      go (b ∷ l) q f = record {
+        line = b ∷ l;
+        rest = [];
+        lines = ap (λ (x : List ℕ). linesOf (x ++ F)) q ∙ ap (λ (x : List ℕ). linesOf ((b ∷ l) ++ x)) e ∙ ap linesOf (append-nil (b ∷ l)) ∙ lines-last b l f;
+        answer = unended (b ∷ l) f (omega arith);
+        behind = ap answersOf (sym e ∙ at-end F);
+      }
 
   -- the next piece
-  abbrev Told : Piece → Type 0
-  Told p = (p .next ≡ at → ⊥) → Means false (replyText s (p .reply)) (p .skipping) (p .next)
-
-  piece-means : (last : Bool) → at < length s → (last ≡ true → F ≡ []) → Told (pieceAt s at last)
+  pub piece-first : (last : Bool) → at < length s → (last ≡ true → F ≡ []) → (pieceAt s at last (replyAt s at .next) .next ≡ at → ⊥)
+      → First (replyText s (replyAt s at)) (pieceAt s at last (replyAt s at .next))
   unfolding pieceAt feedAfter
-  piece-means last h e = by-reply (eqb (replyAt s at .next) 0) refl
+  piece-first last h e = by-reply (replyAt s at .next) refl
     where
+      Told : Piece → Type 0
+      Told p = (p .next ≡ at → ⊥) → First noRequestText p
+
       by-rest : (t u : Bool) → leb (at + 512) (length s) ≡ t → last ≡ u → feedIn (drop at s) ≡ 0
-          → Told (cond t (record { next = length s; skipping = true; reply = noReply })
-          (cond u (record { next = length s; skipping = false; reply = noReply }) (record { next = at; skipping = false; reply = noReply })))
-      by-rest true u p q f n = long-means f (omega (arith, leb-true (at + 512) (length s) p, length-drop at s))
-      by-rest false true p q f n = last-means (e q) f h
+          → Told (cond t (record { next = length s; skipping = true }) (cond u (record { next = length s; skipping = false }) (record { next = at; skipping = false })))
+      by-rest true u p q f n = long-first f (omega (arith, leb-true (at + 512) (length s) p, length-drop at s))
+      by-rest false true p q f n = last-first (e q) f h
       by-rest false false p q f n = absurd (n refl)
 
       by-feed : replyAt s at .next ≡ 0 → (n : ℕ) → feedIn (drop at s) ≡ n → Told (feedPiece at (length s) (movedBy at n) last)
@@ -236,21 +254,25 @@ module _ (s : List ℕ) (at : ℕ) (F : List ℕ) where
         where
           by-next : (k : ℕ) → at + suc w ≡ k → Told (feedPiece at (length s) k last)
           by-next zero q n = absurd (omega arith)
-          by-next (suc k) q n = none-means (omega arith) z w f ∙ ap (λ (j : ℕ). replyText s noReply ++ answersOf (drop j s ++ F)) q
+          by-next (suc k) q n = subst (λ (j : ℕ). First noRequestText (record { next = j; skipping = false })) q (none-first (omega arith) z w f)
 
-      by-reply : (t : Bool) → eqb (replyAt s at .next) 0 ≡ t
-          → Told (cond t (feedPiece at (length s) (movedBy at (feedIn (drop at s))) last) (record { next = replyAt s at .next; skipping = false; reply = replyAt s at }))
-      by-reply true p n = by-feed (eqb-true (replyAt s at .next) 0 p) (feedIn (drop at s)) refl n
-      by-reply false p n = reply-means (eqb-false (replyAt s at .next) 0 p)
+      by-reply : (n : ℕ) → replyAt s at .next ≡ n → (pieceAt s at last n .next ≡ at → ⊥) → First (replyText s (replyAt s at)) (pieceAt s at last n)
+      by-reply zero p n =
+          subst (λ (x : List ℕ). First x (pieceAt s at last 0)) (sym (reply-none s (replyAt s at) p)) (by-feed p (feedIn (drop at s)) refl n)
+      by-reply (suc k) p n =
+          subst (λ (j : ℕ). First (replyText s (replyAt s at)) (record { next = j; skipping = false })) p
+          (reply-first (λ z. omega arith))
 
   -- a turn
   pub step-means : (room : ℕ) (skip last : Bool) → at < length s → (last ≡ true → F ≡ [])
       → Means skip (stepAt s at room skip last .text) (stepAt s at room skip last .skipping) (stepAt s at room skip last .next)
   unfolding stepAt
   step-means room true last h e = skip-means (omega arith)
-  step-means room false last h e =
-      go (eqb (pieceAt s at last .next) at) (leb (length (replyText s (pieceAt s at last .reply))) room) refl
+  step-means room false last h e = go (eqb (piece .next) at) (leb (length (replyText s (replyAt s at))) room) refl
     where
+      piece : Piece
+      piece = pieceAt s at last (replyAt s at .next)
+
       abbrev-step : Step → Type 0
       abbrev-step x = Means false (x .text) (x .skipping) (x .next)
 
@@ -258,11 +280,14 @@ module _ (s : List ℕ) (at : ℕ) (F : List ℕ) where
       still = record { next = at; text = []; skipping = false }
 
       told : Step
-      told = record { next = pieceAt s at last .next; text = replyText s (pieceAt s at last .reply); skipping = pieceAt s at last .skipping }
+      told = record { next = piece .next; text = replyText s (replyAt s at); skipping = piece .skipping }
 
-      go : (t u : Bool) → eqb (pieceAt s at last .next) at ≡ t → abbrev-step (cond t still (cond u told still))
+      go : (t u : Bool) → eqb (piece .next) at ≡ t → abbrev-step (cond t still (cond u told still))
       go true u q = refl
-      go false true q = piece-means last h e (eqb-false (pieceAt s at last .next) at q)
+      go false true q =
+          let f = piece-first last h e (eqb-false (piece .next) at q) in
+          first-answered (drop at s ++ F) (f .line) (f .rest) (replyText s (replyAt s at)) (f .lines) (f .answer)
+          ∙ ap (λ (x : List ℕ). replyText s (replyAt s at) ++ x) (f .behind)
       go false false q = refl
 
 -- ---- a block, whatever follows the part
@@ -305,10 +330,10 @@ run-means : {pending : List ℕ} {skip : Bool} {future out : List ℕ} → Run p
 unfolding afterFeed
 run-means (done {skipping = true}) = sym answers-none
 run-means (done {skipping = false}) = sym answers-none
-run-means (part pending chunk future skip room out r) =
-    ap (λ (l : List ℕ). blockOf (pending ++ chunk) room skip false .text ++ l) (run-means r)
-    ∙ sym (block-means (pending ++ chunk) room skip false future (λ e. absurd (never e)))
-    ∙ ap (answersFrom skip) (append-assoc pending chunk future)
+run-means (read pending chunk future skip out r) = run-means r ∙ ap (answersFrom skip) (append-assoc pending chunk future)
+run-means (part pending future skip room out r) =
+    ap (λ (l : List ℕ). blockOf pending room skip false .text ++ l) (run-means r)
+    ∙ sym (block-means pending room skip false future (λ e. absurd (never e)))
   where
     never : _≡_ {A = Bool} false true → ⊥
     never e = let z : _≡_ {A = ℕ} 0 1 = cc in omega arith
@@ -363,169 +388,3 @@ lines-feeds (l ∷ ls) = feeds-join (answerOf l) (answersTo ls) ∙ omega (arith
 pub one-for-each : (input : List ℕ) → feeds (answersOf input) ≡ length (linesOf input)
 unfolding answersOf
 one-for-each input = lines-feeds (linesOf input)
-
-nothing-feeds : feeds [] ≡ 0
-unfolding feeds
-nothing-feeds = refl
-
--- ---- every call gets on: with room for any one answer, it takes nothing only where nothing whole is there
-pub record Roomy (room : ℕ) : Type 0 where
-  pub most : (line : List ℕ) → length (answerOf line) ≤ room
-
-pub record Waiting (s : List ℕ) (skip last : Bool) : Type 0 where
-  pub free : skip ≡ false
-  pub open-end : last ≡ false
-  pub no-line : feedIn s ≡ 0
-  pub short : length s < 512
-
-from-ahead : (n : ℕ) (s : List ℕ) (room at : ℕ) (text : List ℕ) (skip last : Bool) → at ≤ length s → at ≤ blockFrom n s room at text skip last .used
-unfolding blockFrom
-from-ahead zero s room at text skip last h = omega arith
-from-ahead (suc n) s room at text skip last h =
-    go (ltb at (length s)) (eqb (stepAt s at (room - length text) skip last .next) at) refl refl
-    (λ h'. from-ahead n s room (step .next) (text ++ step .text) (step .skipping) last h')
-  where
-    step : Step
-    step = stepAt s at (room - length text) skip last
-
-    go : (t u : Bool) → ltb at (length s) ≡ t → eqb (stepAt s at (room - length text) skip last .next) at ≡ u
-        → (step .next ≤ length s → step .next ≤ blockFrom n s room (step .next) (text ++ step .text) (step .skipping) last .used)
-        → at ≤ blockFrom (suc n) s room at text skip last .used
-    go false u p q r = omega (arith, ap (λ (b : Block). b .used) (block-out s room at text skip last (suc n) (ltb-false at (length s) p)))
-    go true true p q r = omega (arith, ap (λ (b : Block). b .used) (block-still s room at text skip last (suc n) (eqb-true (step .next) at q)))
-    go true false p q r =
-        omega (
-          arith,
-          ap (λ (b : Block). b .used) (block-on s room at text skip last n (ltb-true at (length s) p) (eqb-false (step .next) at q)),
-          r (step-ahead s at (room - length text) skip last h .1),
-          step-ahead s at (room - length text) skip last h,
-        )
-
--- the text of a reply is the answer of some line
-none-fits : (s : List ℕ) (room : ℕ) → Roomy room → length (replyText s noReply) ≤ room
-none-fits s room m =
-    omega (arith, m .most (0 ∷ []), ap length (reply-none s noReply refl ∙ sym (unended (0 ∷ []) no-end (omega arith))))
-  where
-    no-end : feedIn (0 ∷ []) ≡ 0
-    no-end = Rattle.line.proofs.Feeds.no-feed (0 ∷ []) (feeds-cons 0 [] (omega arith) ∙ empty)
-      where
-        empty : feeds [] ≡ 0
-        empty = nothing-feeds
-
-reply-fits : (s : List ℕ) (at room : ℕ) → Roomy room → (a : Asked) → RequestGood s at a → length (replyText s (replyTo at a)) ≤ room
-unfolding replyTo
-reply-fits s at room m Asked.nothing g = none-fits s room m
-reply-fits s at room m (asked kind key bands next) g = go (leb next (at + 512)) refl
-  where
-    reply : Reply
-    reply = record { next = next; kind = kind; key = at + 3; len = length key; rated = judged kind bands }
-
-    go : (t : Bool) → leb next (at + 512) ≡ t → length (replyText s (cond t reply noReply)) ≤ room
-    go true e =
-        omega (
-          arith,
-          m .most (requestText kind key bands),
-          ap length (answer-there s at kind key bands next g (leb-true next (at + 512) e)
-              ∙ ap (λ (l : List ℕ). ratedText kind l (judged kind bands)) (g .key-is)
-              ∙ sym (reply-text s reply (λ z. omega (arith, g .ends, text-length kind key bands)))),
-        )
-    go false e = none-fits s room m
-
-module _ (s : List ℕ) (room : ℕ) (m : Roomy room) (some : 0 < length s) where
-  wait-piece : (last : Bool) → pieceAt s 0 last .next ≡ 0 → Waiting s false last
-  unfolding pieceAt feedAfter
-  wait-piece last = by-reply (eqb (replyAt s 0 .next) 0) refl
-    where
-      Still : Piece → Type 0
-      Still p = p .next ≡ 0 → Waiting s false last
-
-      by-rest : (t u : Bool) → leb (0 + 512) (length s) ≡ t → last ≡ u → feedIn s ≡ 0
-          → Still (cond t (record { next = length s; skipping = true; reply = noReply })
-          (cond u (record { next = length s; skipping = false; reply = noReply }) (record { next = 0; skipping = false; reply = noReply })))
-      by-rest true u p q f z = absurd (omega arith)
-      by-rest false true p q f z = absurd (omega arith)
-      by-rest false false p q f z = record { free = refl; open-end = q; no-line = f; short = omega (arith, leb-false (0 + 512) (length s) p) }
-
-      by-feed : (n : ℕ) → feedIn s ≡ n → Still (feedPiece 0 (length s) (movedBy 0 n) last)
-      by-feed zero f = by-rest (leb (0 + 512) (length s)) last refl refl f
-      by-feed (suc w) f = by-next (0 + suc w) refl
-        where
-          by-next : (k : ℕ) → 0 + suc w ≡ k → Still (feedPiece 0 (length s) k last)
-          by-next zero q z = absurd (omega arith)
-          by-next (suc k) q z = absurd (omega arith)
-
-      by-reply : (t : Bool) → eqb (replyAt s 0 .next) 0 ≡ t
-          → Still (cond t (feedPiece 0 (length s) (movedBy 0 (feedIn s)) last) (record { next = replyAt s 0 .next; skipping = false; reply = replyAt s 0 }))
-      by-reply true p z = by-feed (feedIn s) refl z
-      by-reply false p z = absurd (eqb-false (replyAt s 0 .next) 0 p z)
-
-  piece-fits : (last : Bool) → length (replyText s (pieceAt s 0 last .reply)) ≤ room
-  unfolding pieceAt replyAt feedAfter
-  piece-fits last = by-reply (eqb (replyTo 0 (requestAt s 0) .next) 0)
-    where
-      Fits : Piece → Type 0
-      Fits p = length (replyText s (p .reply)) ≤ room
-
-      by-rest : (t u : Bool) → Fits (cond t (record { next = length s; skipping = true; reply = noReply })
-          (cond u (record { next = length s; skipping = false; reply = noReply }) (record { next = 0; skipping = false; reply = noReply })))
-      by-rest true u = none-fits s room m
-      by-rest false true = none-fits s room m
-      by-rest false false = none-fits s room m
-
-      by-feed : (k : ℕ) → Fits (feedPiece 0 (length s) k last)
-      by-feed zero = by-rest (leb (0 + 512) (length s)) last
-      by-feed (suc k) = none-fits s room m
-
-      by-reply : (t : Bool) → Fits (cond t (feedPiece 0 (length s) (movedBy 0 (feedIn s)) last)
-          (record { next = replyTo 0 (requestAt s 0) .next; skipping = false; reply = replyTo 0 (requestAt s 0) }))
-      by-reply true = by-feed (movedBy 0 (feedIn s))
-      by-reply false = reply-fits s 0 room m (requestAt s 0) (request-ok s 0)
-
-  wait-step : (skip last : Bool) → stepAt s 0 room skip last .next ≡ 0 → Waiting s skip last
-  unfolding stepAt
-  wait-step true last = go (feedAfter s 0)
-    where
-      go : (n : ℕ) → skipBy (length s) n .next ≡ 0 → Waiting s true last
-      go zero z = absurd (omega arith)
-      go (suc n) z = absurd (omega arith)
-  wait-step false last = go (eqb (pieceAt s 0 last .next) 0) refl
-    where
-      Still : Step → Type 0
-      Still x = x .next ≡ 0 → Waiting s false last
-
-      go : (t : Bool) → eqb (pieceAt s 0 last .next) 0 ≡ t
-          → Still (cond t (record { next = 0; text = []; skipping = false })
-          (cond (leb (length (replyText s (pieceAt s 0 last .reply))) room)
-          (record { next = pieceAt s 0 last .next; text = replyText s (pieceAt s 0 last .reply); skipping = pieceAt s 0 last .skipping })
-          (record { next = 0; text = []; skipping = false })))
-      go true e z = wait-piece last (eqb-true (pieceAt s 0 last .next) 0 e)
-      go false e z =
-          absurd (eqb-false (pieceAt s 0 last .next) 0 e
-          (sym (ap (λ (b : Bool). the (cond b (record { next = pieceAt s 0 last .next; text = replyText s (pieceAt s 0 last .reply); skipping = pieceAt s 0 last .skipping })
-          (record { next = 0; text = []; skipping = false }))) (le-leb (length (replyText s (pieceAt s 0 last .reply))) room (piece-fits last))) ∙ z))
-        where
-          the : Step → ℕ
-          the x = x .next
-
-  -- "answers all whole lines .. for which the output has room": a call that takes nothing waits for more
-  pub gets-on : (skip last : Bool) → blockOf s room skip last .used ≡ 0 → Waiting s skip last
-  unfolding blockOf
-  gets-on skip last e = by-length (length s) refl e
-    where
-      by-length : (n : ℕ) → length s ≡ n → blockFrom n s room 0 [] skip last .used ≡ 0 → Waiting s skip last
-      by-length zero f e = absurd (omega arith)
-      by-length (suc n) f e = by-step (eqb (stepAt s 0 (room - 0) skip last .next) 0) refl
-        where
-          same : stepAt s 0 (room - 0) skip last ≡ stepAt s 0 room skip last
-          same = ap (λ (k : ℕ). stepAt s 0 k skip last) (all room)
-            where
-              all : (k : ℕ) → k - 0 ≡ k
-              all k = omega arith
-
-          by-step : (t : Bool) → eqb (stepAt s 0 (room - 0) skip last .next) 0 ≡ t → Waiting s skip last
-          by-step true q = wait-step skip last (sym (ap (λ (x : Step). x .next) same) ∙ eqb-true (stepAt s 0 (room - 0) skip last .next) 0 q)
-          by-step false q =
-              let step : Step = stepAt s 0 (room - 0) skip last in
-              let on : blockFrom (suc n) s room 0 [] skip last .used ≡ blockFrom n s room (step .next) ([] ++ step .text) (step .skipping) last .used =
-              ap (λ (b : Block). b .used) (block-on s room 0 [] skip last n some (eqb-false (step .next) 0 q)) in
-              absurd (eqb-false (step .next) 0 q (omega (arith, on, from-ahead n s room (step .next) ([] ++ step .text) (step .skipping) last (step-ahead s 0 (room - 0) skip last (omega arith) .1))))

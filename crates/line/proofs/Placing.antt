@@ -8,7 +8,7 @@ use native.Mathlib.Omega.{arith}
 use borrow.Author.Tests.{le-leb, lt-leb, leb-true, leb-false, eq-eqb, ne-eqb}
 use borrow.Rule.Slice.PartMut.{putMid, midOf}
 use lib.Dec.{leb, eqb}
-use lib.ListN.{length, take, drop, length-drop, length-take, length-append, drop-of-length-le}
+use lib.ListN.{length, take, drop, length-drop, drop-of-length-le}
 use lib.Seq.{take-all, drop-drop}
 use Rattle.quantity.specs.declared.refusals.Refusal.the-variants.{NoRoom}
 use Rattle.rating.specs.declared.kinds.Kind.{Kind}
@@ -41,25 +41,12 @@ module _ (out : List ℕ) (at : ℕ) (text : List ℕ) where
     mid-is : midOf at (length out - at) out ≡ drop at out
     mid-is = take-all (length out - at) (drop at out) (omega (arith, length-drop at out))
 
-    pub room-length : length (midOf at (length out - at) out) ≡ length out - at
-    room-length = ap length mid-is ∙ length-drop at out
-
     pub room-home : {ys : List ℕ} → ys ≡ front text (midOf at (length out - at) out) → putMid at (length out - at) out ys ≡ placed out at text
     unfolding placed fitsAt
     room-home {ys} y =
         ap (λ (r : List ℕ). take at out ++ (ys ++ r)) (drop-of-length-le (drop at out) {i = length out - at} (omega (arith, length-drop at out)))
         ∙ ap (λ (r : List ℕ). take at out ++ r) (append-nil ys ∙ y ∙ ap (front text) mid-is ∙ ap (λ (r : List ℕ). text ++ r) (drop-drop (length text) at out))
         ∙ sym (ap (λ (t : Bool). cond t (take at out ++ (text ++ drop (at + length text) out)) out) (le-leb (at + length text) (length out) h))
-
-pub placed-length : (out : List ℕ) (at : ℕ) (text : List ℕ) → length (placed out at text) ≡ length out
-unfolding placed fitsAt
-placed-length out at text = go (leb (at + length text) (length out)) refl
-  where
-    go : (t : Bool) → leb (at + length text) (length out) ≡ t → length (cond t (take at out ++ (text ++ drop (at + length text) out)) out) ≡ length out
-    go true e =
-        length-append (take at out) (text ++ drop (at + length text) out)
-        ∙ omega (arith, length-append text (drop (at + length text) out), length-take at out, length-drop (at + length text) out, leb-true (at + length text) (length out) e)
-    go false e = refl
 
 -- the text of a reply that is one
 pub reply-text : (s : List ℕ) (r : Reply) → (r .next ≡ 0 → ⊥) → replyText s r ≡ ratedText (r .kind) (take (r .len) (drop (r .key) s)) (r .rated)

@@ -11,10 +11,10 @@ use lib.Seq.{take-at, drop-append-add, drop-drop}
 use Rattle.line.specs.declared.blocks.Piece.{Piece}
 use Rattle.line.specs.declared.blocks.Turn.{Turn}
 use Rattle.answer.specs.Texts.{front}
-use Rattle.reply.specs.Answers.{replyText}
+use Rattle.reply.specs.Answers.{replyAt, replyText}
 use Rattle.line.specs.Blocks.{feedAfter, pieceAt, Step, skipBy, stepAt, Block, blockFrom, blockOf, Turned, Answered}
 use Rattle.answer.proofs.Fronts.{front-length}
-use Rattle.line.proofs.Turns.{feed-bounds, PieceGood, piece-good, none-placed}
+use Rattle.line.proofs.Turns.{feed-bounds, piece-ahead, none-placed}
 
 -- a step lies ahead, and within
 pub step-ahead : (s : List ℕ) (at room : ℕ) (skipping last : Bool) → at ≤ length s
@@ -26,16 +26,21 @@ step-ahead s at room true last h = go (feedAfter s at) refl
     go zero e = (h, omega arith)
     go (suc n) e = (omega (arith, feed-bounds s at n e), feed-bounds s at n e .1)
 step-ahead s at room false last h =
-    go (eqb (pieceAt s at last .next) at) (leb (length (replyText s (pieceAt s at last .reply))) room) (piece-good s at last h)
+    go (eqb (piece .next) at) (leb (length (replyText s (replyAt s at))) room) (piece-ahead s at last h)
   where
+    piece : Piece
+    piece = pieceAt s at last (replyAt s at .next)
+
     still : Step
     still = record { next = at; text = []; skipping = false }
 
-    go : (t u : Bool) → PieceGood s at (pieceAt s at last)
-        → (at ≤ cond t still (cond u (record { next = pieceAt s at last .next; text = replyText s (pieceAt s at last .reply); skipping = pieceAt s at last .skipping }) still) .next)
-        × (cond t still (cond u (record { next = pieceAt s at last .next; text = replyText s (pieceAt s at last .reply); skipping = pieceAt s at last .skipping }) still) .next ≤ length s)
+    told : Step
+    told = record { next = piece .next; text = replyText s (replyAt s at); skipping = piece .skipping }
+
+    go : (t u : Bool) → (at ≤ piece .next) × (piece .next ≤ length s)
+        → (at ≤ cond t still (cond u told still) .next) × (cond t still (cond u told still) .next ≤ length s)
     go true u g = (omega arith, h)
-    go false true g = (g .ahead, g .within)
+    go false true g = g
     go false false g = (omega arith, h)
 
 -- a step that takes nothing writes nothing
@@ -46,18 +51,20 @@ still-text s at room true last e = go (feedAfter s at)
     go : (n : ℕ) → skipBy (length s) n .text ≡ []
     go zero = refl
     go (suc n) = refl
-still-text s at room false last e =
-    go (eqb (pieceAt s at last .next) at) (leb (length (replyText s (pieceAt s at last .reply))) room) refl e
+still-text s at room false last e = go (eqb (piece .next) at) (leb (length (replyText s (replyAt s at))) room) refl e
   where
+    piece : Piece
+    piece = pieceAt s at last (replyAt s at .next)
+
     still : Step
     still = record { next = at; text = []; skipping = false }
 
     told : Step
-    told = record { next = pieceAt s at last .next; text = replyText s (pieceAt s at last .reply); skipping = pieceAt s at last .skipping }
+    told = record { next = piece .next; text = replyText s (replyAt s at); skipping = piece .skipping }
 
-    go : (t u : Bool) → eqb (pieceAt s at last .next) at ≡ t → cond t still (cond u told still) .next ≡ at → cond t still (cond u told still) .text ≡ []
+    go : (t u : Bool) → eqb (piece .next) at ≡ t → cond t still (cond u told still) .next ≡ at → cond t still (cond u told still) .text ≡ []
     go true u f e = refl
-    go false true f e = absurd (eqb-false (pieceAt s at last .next) at f e)
+    go false true f e = absurd (eqb-false (piece .next) at f e)
     go false false f e = refl
 
 module _ (s : List ℕ) (room at : ℕ) (text : List ℕ) (skipping last : Bool) where

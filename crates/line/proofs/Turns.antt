@@ -4,7 +4,7 @@ use mathlib.Core.Bool.{Bool, true, false, cond}
 use mathlib.Core.List.{List, [], _∷_, _++_}
 use Prim.Native.Nat.{ℕ, zero, suc, _+_, _-_, _≤_, _<_}
 use native.Mathlib.Omega.{arith}
-use borrow.Author.Tests.{le-leb, lt-leb, leb-true, leb-false, eq-eqb, ne-eqb, eqb-false}
+use borrow.Author.Tests.{le-leb, lt-leb, leb-true, leb-false, eq-eqb, ne-eqb}
 use lib.Dec.{leb, eqb}
 use lib.ListN.{length, take, drop, length-drop, drop-of-length-le, take-append-drop}
 use lib.Seq.{drop-cons}
@@ -17,13 +17,11 @@ use Rattle.line.specs.declared.blocks.Piece.{Piece}
 use Rattle.line.specs.declared.blocks.Turn.{Turn}
 use Rattle.request.specs.Reading.{byteAt, Asked, requestAt}
 use Rattle.request.specs.Reading.Asked.{asked}
-use Rattle.reply.specs.Answers.{judged, noReply, replyTo, replyAt, replyText, Keyed}
+use Rattle.reply.specs.Answers.{judged, noReply, replyTo, replyAt, replyText}
 use Rattle.line.specs.Answers.{fitsAt, placed, wroteOf}
 use Rattle.line.specs.Blocks.{oneMore, feedIn, movedBy, feedAfter, restPiece, feedPiece, pieceAt, Step, skipBy, answerBy, stepAt, Turned}
 use Rattle.request.proofs.Stands.{fits}
 use Rattle.request.proofs.Wholes.{RequestGood, request-ok, text-length}
-use Rattle.reply.proofs.Replies.{reply-keyed}
-use Rattle.line.proofs.Placing.{none-keyed}
 
 -- ---- the next line feed
 pub feed-cons : (b : ℕ) (s : List ℕ) (t : Bool) → eqb b 10 ≡ t → feedIn (b ∷ s) ≡ cond t 1 (oneMore (feedIn s))
@@ -76,41 +74,42 @@ feed-bounds s at e f = go (feedIn (drop at s)) refl f
     go (suc n) p q = (omega arith, omega (arith, feed-most (drop at s), length-drop at s))
 
 -- ---- pieces
-module _ (s : List ℕ) (at : ℕ) (last : Bool) (r : Reply) (e : r ≡ replyAt s at) where
-  by-none : (p : Piece) → r .next ≡ 0 → p ≡ feedPiece at (length s) (feedAfter s at) last → p ≡ pieceAt s at last
+module _ (s : List ℕ) (at : ℕ) (last : Bool) (next : ℕ) where
+  pub piece-some : (next ≡ 0 → ⊥) → record { next = next; skipping = false } ≡ pieceAt s at last next
   unfolding pieceAt
-  by-none p z f =
-      f ∙ sym (ap (λ (t : Bool). cond t (feedPiece at (length s) (feedAfter s at) last) (record { next = replyAt s at .next; skipping = false; reply = replyAt s at }))
-      (eq-eqb (replyAt s at .next) 0 (sym (ap (λ (x : Reply). x .next) e) ∙ z)))
+  piece-some z = go next z
+    where
+      go : (n : ℕ) → (n ≡ 0 → ⊥) → record { next = n; skipping = false } ≡ pieceAt s at last n
+      go zero z = absurd (z refl)
+      go (suc n) z = refl
 
-  pub piece-some : (r .next ≡ 0 → ⊥) → record { next = r .next; skipping = false; reply = r } ≡ pieceAt s at last
-  unfolding pieceAt
-  piece-some z =
-      ap (λ (x : Reply). record { next = x .next; skipping = false; reply = x }) e
-      ∙ sym (ap (λ (t : Bool). cond t (feedPiece at (length s) (feedAfter s at) last) (record { next = replyAt s at .next; skipping = false; reply = replyAt s at }))
-      (ne-eqb (replyAt s at .next) 0 (λ q. z (ap (λ (x : Reply). x .next) e ∙ q))))
+  module _ (z : next ≡ 0) (f : ℕ) (g : f ≡ feedAfter s at) where
+    by-none : (p : Piece) → p ≡ feedPiece at (length s) f last → p ≡ pieceAt s at last next
+    unfolding pieceAt
+    by-none p e = e ∙ ap (λ (k : ℕ). feedPiece at (length s) k last) g ∙ ap (pieceAt s at last) (sym z)
 
-  pub piece-feed : (f : ℕ) → r .next ≡ 0 → f ≡ feedAfter s at → (f ≡ 0 → ⊥) → record { next = f; skipping = false; reply = noReply } ≡ pieceAt s at last
-  piece-feed zero z g n = absurd (n refl)
-  piece-feed (suc f) z g n = by-none (record { next = suc f; skipping = false; reply = noReply }) z (ap (λ (k : ℕ). feedPiece at (length s) k last) g)
+    pub piece-feed : (f ≡ 0 → ⊥) → record { next = f; skipping = false } ≡ pieceAt s at last next
+    piece-feed n = by-none (record { next = f; skipping = false }) (go f n)
+      where
+        go : (f : ℕ) → (f ≡ 0 → ⊥) → record { next = f; skipping = false } ≡ feedPiece at (length s) f last
+        go zero n = absurd (n refl)
+        go (suc f) n = refl
 
-  by-rest : (f : ℕ) (p : Piece) → r .next ≡ 0 → f ≡ feedAfter s at → f ≡ 0 → p ≡ restPiece at (length s) last → p ≡ pieceAt s at last
-  by-rest f p z g n q = by-none p z (q ∙ ap (λ (k : ℕ). feedPiece at (length s) k last) (sym n ∙ g))
+    module _ (n : f ≡ 0) (i : at ≤ length s) where
+      by-rest : (p : Piece) → p ≡ restPiece at (length s) last → p ≡ pieceAt s at last next
+      by-rest p e = by-none p (e ∙ ap (λ (k : ℕ). feedPiece at (length s) k last) (sym n))
 
-  pub piece-long : (f : ℕ) → r .next ≡ 0 → f ≡ feedAfter s at → f ≡ 0 → at ≤ length s → 512 ≤ length s - at
-      → record { next = length s; skipping = true; reply = noReply } ≡ pieceAt s at last
-  piece-long f z g n i h = by-rest f (record { next = length s; skipping = true; reply = noReply }) z g n (rw (le-leb (at + 512) (length s) (omega arith)))
+      pub piece-long : 512 ≤ length s - at → record { next = length s; skipping = true } ≡ pieceAt s at last next
+      piece-long h = by-rest (record { next = length s; skipping = true }) (rw (le-leb (at + 512) (length s) (omega arith)))
 
-  pub piece-last : (f : ℕ) → r .next ≡ 0 → f ≡ feedAfter s at → f ≡ 0 → at ≤ length s → length s - at < 512 → last ≡ true
-      → record { next = length s; skipping = false; reply = noReply } ≡ pieceAt s at last
-  piece-last f z g n i h l = by-rest f (record { next = length s; skipping = false; reply = noReply }) z g n (rw (lt-leb (at + 512) (length s) (omega arith), l))
+      pub piece-last : length s - at < 512 → last ≡ true → record { next = length s; skipping = false } ≡ pieceAt s at last next
+      piece-last h l = by-rest (record { next = length s; skipping = false }) (rw (lt-leb (at + 512) (length s) (omega arith), l))
 
-  pub piece-wait : (f : ℕ) → r .next ≡ 0 → f ≡ feedAfter s at → f ≡ 0 → at ≤ length s → length s - at < 512 → last ≡ false
-      → record { next = at; skipping = false; reply = noReply } ≡ pieceAt s at last
-  piece-wait f z g n i h l = by-rest f (record { next = at; skipping = false; reply = noReply }) z g n (rw (lt-leb (at + 512) (length s) (omega arith), l))
+      pub piece-wait : length s - at < 512 → last ≡ false → record { next = at; skipping = false } ≡ pieceAt s at last next
+      piece-wait h l = by-rest (record { next = at; skipping = false }) (rw (lt-leb (at + 512) (length s) (omega arith), l))
 
 -- a reply's request lies ahead, and within
-reply-ahead : (s : List ℕ) (at : ℕ) → (replyAt s at .next ≡ 0 → ⊥) → (at < replyAt s at .next) × (replyAt s at .next ≤ length s)
+pub reply-ahead : (s : List ℕ) (at : ℕ) → (replyAt s at .next ≡ 0 → ⊥) → (at < replyAt s at .next) × (replyAt s at .next ≤ length s)
 unfolding replyAt replyTo
 reply-ahead s at = go (requestAt s at) (request-ok s at)
   where
@@ -128,31 +127,27 @@ reply-ahead s at = go (requestAt s at) (request-ok s at)
         )
         by-length false z = absurd (z refl)
 
-pub record PieceGood (s : List ℕ) (at : ℕ) (p : Piece) : Type 0 where
-  pub ahead : at ≤ p .next
-  pub within : p .next ≤ length s
-  pub keyed : Keyed s (p .reply)
-
-pub piece-good : (s : List ℕ) (at : ℕ) (last : Bool) → at ≤ length s → PieceGood s at (pieceAt s at last)
+pub piece-ahead : (s : List ℕ) (at : ℕ) (last : Bool) → at ≤ length s
+    → (at ≤ pieceAt s at last (replyAt s at .next) .next) × (pieceAt s at last (replyAt s at .next) .next ≤ length s)
 unfolding pieceAt
-piece-good s at last h = go (eqb (replyAt s at .next) 0) refl
+piece-ahead s at last h = go (replyAt s at .next) (reply-ahead s at)
   where
-    rest : (t u : Bool) → PieceGood s at (cond t (record { next = length s; skipping = true; reply = noReply })
-        (cond u (record { next = length s; skipping = false; reply = noReply }) (record { next = at; skipping = false; reply = noReply })))
-    rest true u = record { ahead = h; within = omega arith; keyed = none-keyed s }
-    rest false true = record { ahead = h; within = omega arith; keyed = none-keyed s }
-    rest false false = record { ahead = omega arith; within = h; keyed = none-keyed s }
+    Ahead : Piece → Type 0
+    Ahead p = (at ≤ p .next) × (p .next ≤ length s)
 
-    by-feed : (n : ℕ) → feedAfter s at ≡ n → PieceGood s at (feedPiece at (length s) n last)
+    rest : (t u : Bool)
+        → Ahead (cond t (record { next = length s; skipping = true }) (cond u (record { next = length s; skipping = false }) (record { next = at; skipping = false })))
+    rest true u = (h, omega arith)
+    rest false true = (h, omega arith)
+    rest false false = (omega arith, h)
+
+    by-feed : (n : ℕ) → feedAfter s at ≡ n → Ahead (feedPiece at (length s) n last)
     by-feed zero e = rest (leb (at + 512) (length s)) last
-    by-feed (suc n) e = record { ahead = omega (arith, feed-bounds s at n e); within = feed-bounds s at n e .1; keyed = none-keyed s }
+    by-feed (suc n) e = (omega (arith, feed-bounds s at n e), feed-bounds s at n e .1)
 
-    go : (t : Bool) → eqb (replyAt s at .next) 0 ≡ t
-        → PieceGood s at (cond t (feedPiece at (length s) (feedAfter s at) last) (record { next = replyAt s at .next; skipping = false; reply = replyAt s at }))
-    go true e = by-feed (feedAfter s at) refl
-    go false e =
-        let b = reply-ahead s at (eqb-false (replyAt s at .next) 0 e) in
-        record { ahead = omega arith; within = b .1; keyed = reply-keyed s at (replyAt s at) refl }
+    go : (n : ℕ) → ((n ≡ 0 → ⊥) → (at < n) × (n ≤ length s)) → Ahead (pieceAt s at last n)
+    go zero b = by-feed (feedAfter s at) refl
+    go (suc n) b = let w = b (λ z. omega arith) in (omega arith, w .1)
 
 -- ---- turns
 pub none-placed : (out : List ℕ) (w : ℕ) → out ≡ take w out ++ ([] ++ drop (w + 0) out)
@@ -182,10 +177,6 @@ module _ (s : List ℕ) (at : ℕ) (out : List ℕ) (w : ℕ) (skipping last : B
   unfolding stepAt
   skip-step e = rw e
 
-  ask-step : skipping ≡ false → step ≡ answerBy s at (length out - w) (pieceAt s at last)
-  unfolding stepAt
-  ask-step e = rw e
-
   pub turn-past : (f : ℕ) → skipping ≡ true → f ≡ feedAfter s at → f ≡ 0 → Turned step out w (record { next = length s; wrote = w; skipping = true }) out
   turn-past f e g z =
       by-step (record { next = length s; text = []; skipping = true }) (record { next = length s; wrote = w; skipping = true }) out
@@ -200,64 +191,64 @@ module _ (s : List ℕ) (at : ℕ) (out : List ℕ) (w : ℕ) (skipping last : B
   abbrev still : Step
   still = record { next = at; text = []; skipping = false }
 
-  pub turn-none : (p : Piece) → skipping ≡ false → p ≡ pieceAt s at last → p .next ≡ at → Turned step out w (record { next = at; wrote = w; skipping = false }) out
-  turn-none p e g z =
-      by-step still (record { next = at; wrote = w; skipping = false }) out
-      (ask-step e ∙ ap (answerBy s at (length out - w)) (sym g) ∙ rw (eq-eqb (p .next) at z))
-      (idle out w (record { next = at; wrote = w; skipping = false }) at false room refl)
+  module _ (e : skipping ≡ false) (reply : Reply) (read : reply ≡ replyAt s at) (p : Piece) (g : p ≡ pieceAt s at last (reply .next)) where
+    abbrev text : List ℕ
+    text = replyText s reply
 
-  module _ (p : Piece) (e : skipping ≡ false) (g : p ≡ pieceAt s at last) (z : p .next ≡ at → ⊥) (x : Wrote) (after : List ℕ)
-      (wrote-is : x ≡ wroteOf out w (replyText s (p .reply))) (after-is : after ≡ placed out w (replyText s (p .reply))) where
-    text : List ℕ
-    text = replyText s (p .reply)
+    ask-step : step ≡ answerBy at (length out - w) (replyText s reply) p
+    unfolding stepAt
+    ask-step =
+        rw e (ap (λ (x : Reply). answerBy at (length out - w) (replyText s x) (pieceAt s at last (x .next))) (sym read))
+        ∙ ap (answerBy at (length out - w) text) (sym g)
 
-    some : step ≡ cond (leb (length (replyText s (p .reply))) (length out - w)) (record { next = p .next; text = replyText s (p .reply); skipping = p .skipping }) still
-    some = ask-step e ∙ ap (answerBy s at (length out - w)) (sym g) ∙ rw (ne-eqb (p .next) at z)
+    pub turn-none : p .next ≡ at → Turned step out w (record { next = at; wrote = w; skipping = false }) out
+    turn-none z =
+        by-step still (record { next = at; wrote = w; skipping = false }) out (ask-step ∙ rw (eq-eqb (p .next) at z))
+        (idle out w (record { next = at; wrote = w; skipping = false }) at false room refl)
 
-    fitting : (t : Bool) → leb (w + length (replyText s (p .reply))) (length out) ≡ t
-        → x ≡ cond t (wrote.Bytes (length (replyText s (p .reply)))) (wrote.Refused NoRoom)
-    unfolding wroteOf fitsAt
-    fitting t h = wrote-is ∙ ap (λ (b : Bool). cond b (wrote.Bytes (length (replyText s (p .reply)))) (wrote.Refused NoRoom)) h
+    module _ (z : p .next ≡ at → ⊥) (x : Wrote) (after : List ℕ) (wrote-is : x ≡ wroteOf out w text) (after-is : after ≡ placed out w text) where
+      abbrev told : Step
+      told = record { next = p .next; text = text; skipping = p .skipping }
 
-    pub turn-full : (r : Refusal) → x ≡ wrote.Refused r → Turned step out w (record { next = at; wrote = w; skipping = false }) after
-    unfolding placed fitsAt
-    turn-full r f = go (leb (w + length (replyText s (p .reply))) (length out)) refl
-      where
-        go : (t : Bool) → leb (w + length (replyText s (p .reply))) (length out) ≡ t → Turned step out w (record { next = at; wrote = w; skipping = false }) after
-        go true h =
-            let q : wrote.Refused r ≡ wrote.Bytes (length (replyText s (p .reply))) = sym f ∙ fitting true h in
-            let n : _≡_ {A = ℕ} 0 1 = cc in absurd (omega arith)
-        go false h =
-            subst (λ (l : List ℕ). Turned step out w (record { next = at; wrote = w; skipping = false }) l)
-            (sym (after-is ∙ ap (λ (b : Bool). cond b (take w out ++ (replyText s (p .reply) ++ drop (w + length (replyText s (p .reply))) out)) out) h))
-            (by-step still (record { next = at; wrote = w; skipping = false }) out
-            (some ∙ ap (λ (b : Bool). cond b (record { next = p .next; text = replyText s (p .reply); skipping = p .skipping }) still)
-            (lt-leb (length (replyText s (p .reply))) (length out - w) (omega (arith, leb-false (w + length (replyText s (p .reply))) (length out) h))))
-            (idle out w (record { next = at; wrote = w; skipping = false }) at false room refl))
+      some : step ≡ cond (leb (length text) (length out - w)) told still
+      some = ask-step ∙ rw (ne-eqb (p .next) at z)
 
-    pub turn-told : (n : ℕ) → x ≡ wrote.Bytes n
-        → (w + n ≤ length out) × Turned step out w (record { next = p .next; wrote = w + n; skipping = p .skipping }) after
-    unfolding placed fitsAt
-    turn-told n f = go (leb (w + length (replyText s (p .reply))) (length out)) refl
-      where
-        go : (t : Bool) → leb (w + length (replyText s (p .reply))) (length out) ≡ t
-            → (w + n ≤ length out) × Turned step out w (record { next = p .next; wrote = w + n; skipping = p .skipping }) after
-        go false h =
-            let q : wrote.Bytes n ≡ wrote.Refused NoRoom = sym f ∙ fitting false h in
-            let k : _≡_ {A = ℕ} 0 1 = cc in absurd (omega arith)
-        go true h =
-            let fit : w + length (replyText s (p .reply)) ≤ length out = leb-true (w + length (replyText s (p .reply))) (length out) h in
-            let q : wrote.Bytes n ≡ wrote.Bytes (length (replyText s (p .reply))) = sym f ∙ fitting true h in
-            let m : n ≡ length (replyText s (p .reply)) = cc in (
-              omega arith,
-              by-step (record { next = p .next; text = replyText s (p .reply); skipping = p .skipping }) (record { next = p .next; wrote = w + n; skipping = p .skipping }) after
-                  (some ∙ ap (λ (b : Bool). cond b (record { next = p .next; text = replyText s (p .reply); skipping = p .skipping }) still)
-                  (le-leb (length (replyText s (p .reply))) (length out - w) (omega arith)))
-                  (record {
-                    next = refl;
-                    wrote-is = ap (λ (k : ℕ). w + k) m;
-                    skipping = refl;
-                    out = after-is ∙ ap (λ (b : Bool). cond b (take w out ++ (replyText s (p .reply) ++ drop (w + length (replyText s (p .reply))) out)) out) h;
-                    fits = fit;
-                  }),
-            )
+      fitting : (t : Bool) → leb (w + length text) (length out) ≡ t → x ≡ cond t (wrote.Bytes (length text)) (wrote.Refused NoRoom)
+      unfolding wroteOf fitsAt
+      fitting t h = wrote-is ∙ ap (λ (b : Bool). cond b (wrote.Bytes (length text)) (wrote.Refused NoRoom)) h
+
+      placing : (t : Bool) → leb (w + length text) (length out) ≡ t → after ≡ cond t (take w out ++ (text ++ drop (w + length text) out)) out
+      unfolding placed fitsAt
+      placing t h = after-is ∙ ap (λ (b : Bool). cond b (take w out ++ (text ++ drop (w + length text) out)) out) h
+
+      pub turn-full : (r : Refusal) → x ≡ wrote.Refused r → Turned step out w (record { next = at; wrote = w; skipping = false }) after
+      turn-full r f = go (leb (w + length text) (length out)) refl
+        where
+          go : (t : Bool) → leb (w + length text) (length out) ≡ t → Turned step out w (record { next = at; wrote = w; skipping = false }) after
+          go true h =
+              let q : wrote.Refused r ≡ wrote.Bytes (length text) = sym f ∙ fitting true h in
+              let n : _≡_ {A = ℕ} 0 1 = cc in absurd (omega arith)
+          go false h =
+              subst (λ (l : List ℕ). Turned step out w (record { next = at; wrote = w; skipping = false }) l) (sym (placing false h))
+              (by-step still (record { next = at; wrote = w; skipping = false }) out
+              (some ∙ ap (λ (b : Bool). cond b told still) (lt-leb (length text) (length out - w) (omega (arith, leb-false (w + length text) (length out) h))))
+              (idle out w (record { next = at; wrote = w; skipping = false }) at false room refl))
+
+      pub turn-told : (n : ℕ) → x ≡ wrote.Bytes n
+          → (w + n ≤ length out) × Turned step out w (record { next = p .next; wrote = w + n; skipping = p .skipping }) after
+      turn-told n f = go (leb (w + length text) (length out)) refl
+        where
+          go : (t : Bool) → leb (w + length text) (length out) ≡ t
+              → (w + n ≤ length out) × Turned step out w (record { next = p .next; wrote = w + n; skipping = p .skipping }) after
+          go false h =
+              let q : wrote.Bytes n ≡ wrote.Refused NoRoom = sym f ∙ fitting false h in
+              let k : _≡_ {A = ℕ} 0 1 = cc in absurd (omega arith)
+          go true h =
+              let fit : w + length text ≤ length out = leb-true (w + length text) (length out) h in
+              let q : wrote.Bytes n ≡ wrote.Bytes (length text) = sym f ∙ fitting true h in
+              let m : n ≡ length text = cc in (
+                omega arith,
+                by-step told (record { next = p .next; wrote = w + n; skipping = p .skipping }) after
+                    (some ∙ ap (λ (b : Bool). cond b told still) (le-leb (length text) (length out - w) (omega arith)))
+                    (record { next = refl; wrote-is = ap (λ (k : ℕ). w + k) m; skipping = refl; out = placing true h; fits = fit }),
+              )

@@ -5,11 +5,10 @@ use mathlib.Core.Path.{_≡_}
 use Prim.Native.Nat.{ℕ, zero, suc, _+_, _-_, _≤_}
 use lib.Dec.{leb, ltb, eqb}
 use lib.ListN.{length, take, drop}
-use Rattle.reply.specs.declared.requests.Reply.{Reply}
 use Rattle.line.specs.declared.blocks.Piece.{Piece}
 use Rattle.line.specs.declared.blocks.Turn.{Turn}
 use Rattle.line.specs.declared.blocks.Progress.{Progress}
-use Rattle.reply.specs.Answers.{noReply, replyAt, replyText}
+use Rattle.reply.specs.Answers.{replyAt, replyText}
 use Rattle.line.specs.Answers.{answersOf}
 
 -- how many bytes stand in front up to and with the first line feed; 0 where there is none
@@ -29,21 +28,21 @@ movedBy at (suc n) = at + suc n
 unfoldable pub feedAfter : List ℕ → ℕ → ℕ
 feedAfter s at = movedBy at (feedIn (drop at s))
 
--- the next piece of a part that asks for an answer: a request; a line that is none; "a longer line" whose line feed is not in
--- the part, to be skipped to its line feed; at the end of the input, what is left. None: the position stays
+-- the next piece of a part that asks for an answer: a request, which ends at `next`; a line that is none (`next` is 0); "a longer
+-- line" whose line feed is not in the part, to be skipped to its line feed; at the end of the input, what is left. None: the
+-- position stays
 abbrev pub restPiece : ℕ → ℕ → Bool → Piece
 restPiece at n last =
-    cond (leb (at + 512) n) (record { next = n; skipping = true; reply = noReply })
-    (cond last (record { next = n; skipping = false; reply = noReply }) (record { next = at; skipping = false; reply = noReply }))
+    cond (leb (at + 512) n) (record { next = n; skipping = true })
+    (cond last (record { next = n; skipping = false }) (record { next = at; skipping = false }))
 
 abbrev pub feedPiece : ℕ → ℕ → ℕ → Bool → Piece
 feedPiece at n zero last = restPiece at n last
-feedPiece at n (suc e) last = record { next = suc e; skipping = false; reply = noReply }
+feedPiece at n (suc e) last = record { next = suc e; skipping = false }
 
-unfoldable pub pieceAt : List ℕ → ℕ → Bool → Piece
-pieceAt s at last =
-    cond (eqb (replyAt s at .next) 0) (feedPiece at (length s) (feedAfter s at) last)
-    (record { next = replyAt s at .next; skipping = false; reply = replyAt s at })
+unfoldable pub pieceAt : List ℕ → ℕ → Bool → ℕ → Piece
+pieceAt s at last zero = feedPiece at (length s) (feedAfter s at) last
+pieceAt s at last (suc next) = record { next = suc next; skipping = false }
 
 -- one turn: skip, or answer the next piece if there is room
 pub record Step : Type 0 where
@@ -55,15 +54,17 @@ abbrev pub skipBy : ℕ → ℕ → Step
 skipBy n zero = record { next = n; text = []; skipping = true }
 skipBy n (suc e) = record { next = suc e; text = []; skipping = false }
 
-abbrev pub answerBy : List ℕ → ℕ → ℕ → Piece → Step
-answerBy s at room p =
+abbrev pub answerBy : ℕ → ℕ → List ℕ → Piece → Step
+answerBy at room text p =
     cond (eqb (p .next) at) (record { next = at; text = []; skipping = false })
-    (cond (leb (length (replyText s (p .reply))) room)
-    (record { next = p .next; text = replyText s (p .reply); skipping = p .skipping })
+    (cond (leb (length text) room) (record { next = p .next; text = text; skipping = p .skipping })
     (record { next = at; text = []; skipping = false }))
 
 unfoldable pub stepAt : List ℕ → ℕ → ℕ → Bool → Bool → Step
-stepAt s at room skipping last = elim skipping [ true ↦ skipBy (length s) (feedAfter s at) | false ↦ answerBy s at room (pieceAt s at last) ]
+stepAt s at room skipping last = elim skipping [
+  | true ↦ skipBy (length s) (feedAfter s at)
+  | false ↦ answerBy at room (replyText s (replyAt s at)) (pieceAt s at last (replyAt s at .next))
+]
 
 -- turns until one takes nothing, or nothing is left
 pub record Block : Type 0 where
@@ -112,13 +113,16 @@ answersFrom true s = answersOf (afterFeed s)
 answersFrom false s = answersOf s
 
 -- A run by block calls: `pending` bytes wait, `skipping` is carried, `future` is still to come, and `out` is all that is
--- written from here on. Each call takes any further part of the input into what waits, with any room; once the input has
--- ended, calls may say so.
+-- written from here on. Any further part of the input may be read into what waits; a call answers what waits, with any room;
+-- once the input has ended, calls may say so.
 pub data Run : List ℕ → Bool → List ℕ → List ℕ → Type 0 where
   done : {skipping : Bool} → Run [] skipping [] []
-  part : (pending chunk future : List ℕ) (skipping : Bool) (room : ℕ) (out : List ℕ)
-      → Run (drop (blockOf (pending ++ chunk) room skipping false .used) (pending ++ chunk)) (blockOf (pending ++ chunk) room skipping false .skipping) future out
-      → Run pending skipping (chunk ++ future) (blockOf (pending ++ chunk) room skipping false .text ++ out)
+  read : (pending chunk future : List ℕ) (skipping : Bool) (out : List ℕ)
+      → Run (pending ++ chunk) skipping future out
+      → Run pending skipping (chunk ++ future) out
+  part : (pending future : List ℕ) (skipping : Bool) (room : ℕ) (out : List ℕ)
+      → Run (drop (blockOf pending room skipping false .used) pending) (blockOf pending room skipping false .skipping) future out
+      → Run pending skipping future (blockOf pending room skipping false .text ++ out)
   end : (pending : List ℕ) (skipping : Bool) (room : ℕ) (out : List ℕ)
       → Run (drop (blockOf pending room skipping true .used) pending) (blockOf pending room skipping true .skipping) [] out
       → Run pending skipping [] (blockOf pending room skipping true .text ++ out)

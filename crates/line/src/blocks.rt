@@ -4,22 +4,17 @@ use crate::lines::answer_at;
 use energy::level_starts;
 use energy::level_thresholds;
 use energy::scaled_powers;
-use reply::Reply;
-use reply::no_reply;
 use reply::reply_at;
 ghost use mathlib.Core.Path.{_≡_};
 ghost use Prim.Native.Nat.{_≤_, _-_};
 ghost use lib.ListN.{length};
 ghost use Rattle.energy.specs.Energies.{Tables};
-ghost use Rattle.reply.specs.Answers.{noReply};
 ghost use Rattle.line.specs.Blocks.{feedAfter, pieceAt, stepAt, Turned, blockOf, Answered};
 
-// The next piece of a part: the position after it (its own where there is none), whether a long line goes on past the part,
-// and its answer.
+// The next piece of a part: the position after it (its own where there is none), and whether a long line goes on past the part.
 pub struct Piece {
     pub next: usize,
     pub skipping: bool,
-    pub reply: Reply,
 }
 
 // After one turn: how far the input and the output have come, and whether a long line is being skipped.
@@ -50,50 +45,40 @@ fn feed_after(s: &[u8], at: usize) -> usize
     0
 }
 
-fn unasked(next: usize, skipping: bool) -> Piece
-    ensures { λ r. ⌜ r ≡ record { next = next; skipping = skipping; reply = noReply } ⌝ }
-{
-    let reply = no_reply();
-    Piece {
-        next,
-        skipping,
-        reply,
-    }
-}
-
-// The next piece that asks for an answer.
-fn piece_at(
-    s: &[u8],
-    at: usize,
-    last: bool,
-    powers: &[u32; 901],
-    thresholds: &[u64; 120],
-    starts: &[u8; 895],
-) -> Piece
+// The next piece that asks for an answer. A request that was read there ends at `next`, which is 0 where none was.
+fn piece_at(s: &[u8], at: usize, last: bool, next: usize) -> Piece
     requires { ⌜ at ≤ length (now s) ⌝ }
-    requires { ⌜ Tables (now powers) (now thresholds) (now starts) ⌝ }
-    ensures { λ r. ⌜ r ≡ pieceAt (now (s .entry)) at last ⌝ }
+    ensures { λ r. ⌜ r ≡ pieceAt (now (s .entry)) at last next ⌝ }
 {
-    let reply = reply_at(s, at, powers, thresholds, starts);
-    let next = reply.next;
     if next != 0 {
         return Piece {
             next,
             skipping: false,
-            reply,
         };
     }
     let end = feed_after(s, at);
     if end != 0 {
-        return unasked(end, false);
+        return Piece {
+            next: end,
+            skipping: false,
+        };
     }
     if 512 <= s.len() - at {
-        return unasked(s.len(), true);
+        return Piece {
+            next: s.len(),
+            skipping: true,
+        };
     }
     if last {
-        return unasked(s.len(), false);
+        return Piece {
+            next: s.len(),
+            skipping: false,
+        };
     }
-    unasked(at, false)
+    Piece {
+        next: at,
+        skipping: false,
+    }
 }
 
 // One turn: skip to the line feed, or answer the next piece if there is room.
@@ -128,9 +113,9 @@ fn turn_at(
             skipping: false,
         };
     }
-    let piece = piece_at(s, at, last, powers, thresholds, starts);
+    let reply = reply_at(s, at, powers, thresholds, starts);
+    let piece = piece_at(s, at, last, reply.next);
     let next = piece.next;
-    let reply = piece.reply;
     if next != at {
         if let Wrote::Bytes(n) = answer_at(s, reply, out, wrote) {
             return Turn {

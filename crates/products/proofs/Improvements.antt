@@ -26,7 +26,7 @@ use Rattle.rooms.specs.Background.{tenths}
 use Rattle.products.specs.declared.covers.Cover.{Cover}
 use Rattle.products.specs.declared.covers.Cover.the-variants.{Refused}
 use Rattle.products.specs.Covers.{floor, floorAt, derivedSet, improvementOf, coverOf}
-use Rattle.products.proofs.Small.{RatedBy}
+use Rattle.rating.proofs.Small.{RatedBy}
 
 -- the table of the code
 unfoldable pub floors : List ℕ

@@ -1,5 +1,4 @@
 -- Laws of covers and grades.
-pub mod Small
 pub mod Signed
 pub mod Improvements
 pub mod Gradings

@@ -7,7 +7,7 @@ use mir.Val.{SFits, toZ, ofZ}
 use mir.Facts.{toZ-ofZ}
 use Rattle.laws.proofs.Ints.{plus, minus, apart, opposite, eq-made, fits-made}
 use Rattle.rooms.proofs.Counts.{near}
-use Rattle.products.specs.Bounds.{Small}
+use Rattle.rating.specs.Bounds.{Small}
 
 -- read back from its bits
 abbrev pub bits : ℤ → ℤ

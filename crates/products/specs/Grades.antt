@@ -12,9 +12,7 @@ use Rattle.rating.specs.declared.kinds.Kind.the-variants.{A3}
 use Rattle.rating.specs.declared.sheets.Rated.{Rated}
 use Rattle.rating.specs.declared.sheets.Rated.the-variants as rated
 use Rattle.rating.specs.declared.sheets.Sheet.{Sheet}
-use Rattle.rating.specs.declared.sheets.Term.{Term}
-use Rattle.rating.specs.declared.sheets.Term.the-variants.{Given, Absent}
-use Rattle.rating.specs.Sheets.{ratedOf, decibels}
+use Rattle.rating.specs.Sheets.{ratedOf, decibels, termOf}
 use Rattle.means.specs.Sets.{specimensOf}
 use Rattle.products.specs.declared.grades.Side.{Side}
 use Rattle.products.specs.declared.grades.Side.the-variants.{Outside, Inside}
@@ -27,11 +25,6 @@ unfoldable pub gradeOf : ℤ → ℕ
 gradeOf z =
     cond (ltZ z (pos 20)) 0 (cond (ltZ z (pos 25)) 1 (cond (ltZ z (pos 30)) 2 (cond (ltZ z (pos 35)) 3
     (cond (ltZ z (pos 40)) 4 (cond (ltZ z (pos 45)) 5 6)))))
-
--- the second term of an airborne sheet
-abbrev pub termOf : Term → ℤ
-termOf (Given d) = d .0
-termOf Absent = pos 0
 
 -- "the deciding number is rating + Ctr for outside doors and windows, rating + C for inside ones"
 abbrev pub decidingOf : Side → Sheet → ℤ

@@ -1,4 +1,3 @@
--- Covers and grades, in the order of document 01; then what the code works with inside.
+-- Covers and grades, in the order of document 01.
 pub mod Covers
 pub mod Grades
-pub mod Bounds

@@ -17,8 +17,8 @@ ghost use Prim.Native.Nat.{_<_};
 ghost use lib.IntN.{_-ℤ_};
 ghost use Rattle.quantity.specs.Quantities.{inRange};
 ghost use Rattle.curve.specs.Bands.{accepted};
+ghost use Rattle.rating.specs.Bounds.{SmallSheet};
 ghost use Rattle.rating.specs.Kinds.{bandsOf};
-ghost use Rattle.products.specs.Bounds.{SmallSheet};
 ghost use Rattle.products.specs.Covers.{floorAt, derivedSet, improvementOf, coverOf};
 
 // A cover's improvement rating, its term and its mark (at least), or a refusal.

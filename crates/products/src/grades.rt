@@ -10,8 +10,9 @@ use rating::Sheet;
 use rating::Term;
 use rating::rate;
 ghost use mathlib.Core.Path.{_≡_};
-ghost use Rattle.products.specs.Bounds.{SmallSheet};
-ghost use Rattle.products.specs.Grades.{gradeOf, termOf, decidingOf, sheetGrade, gradesOf};
+ghost use Rattle.rating.specs.Bounds.{SmallSheet};
+ghost use Rattle.rating.specs.Sheets.{termOf};
+ghost use Rattle.products.specs.Grades.{gradeOf, decidingOf, sheetGrade, gradesOf};
 
 // Where the door or window stands.
 pub enum Side {

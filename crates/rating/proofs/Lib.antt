@@ -5,4 +5,5 @@ pub mod Meaning
 pub mod Weighing
 pub mod Sheeted
 pub mod Rated
+pub mod Small
 pub mod Theorems

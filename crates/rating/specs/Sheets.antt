@@ -3,7 +3,7 @@
 use mathlib.Core.Bool.{Bool, true, false}
 use Prim.Native.Nat.{ℕ}
 use lib.Dec.{eqb}
-use lib.IntN.{ℤ}
+use lib.IntN.{ℤ, pos}
 use Rattle.quantity.specs.Quantities.{halfUp, bandOf}
 use Rattle.quantity.specs.declared.quantities.BandSet.{BandSet}
 use Rattle.quantity.specs.declared.quantities.Decibels.{Decibels}
@@ -41,6 +41,11 @@ sheetOf k s = record {
   shifts = shiftsOf k (bandOf s);
   limit = limited s (bandsOf k);
 }
+
+-- the second term of an airborne sheet
+abbrev pub termOf : Term → ℤ
+termOf (Given d) = d .0
+termOf Absent = pos 0
 
 -- a refusal where a test fails
 abbrev pub asked : Bool → Rated → Rated → Rated

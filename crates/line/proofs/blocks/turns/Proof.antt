@@ -1,3 +1,5 @@
+-- `line::blocks::turns` meets its contract. The loop's invariant: what was answered so far, and what the rest of the part gives,
+-- are the block (`Going`). Assumes nothing.
 use mathlib.Core.Path.{sym, _∙_, ap}
 use Prim.Native.Nat.{_-_}
 use native.Mathlib.Omega.{arith}
@@ -12,55 +14,47 @@ Inv-loop input out₀ skipping last powers thresholds starts used₀ wrote₀ sk
 abbrev μ-loop : tie.MeasureT-loop
 μ-loop input out₀ skipping last powers thresholds starts used₀ wrote₀ skip₀ out used wrote skip = length input - used
 
--- src/blocks.rt:135:5
 loop-holds : tie.Need-loop-holds Inv-loop μ-loop
 loop-holds c =
     let a = c .before .before .args in
     going-start (a .input .now) (a .out .now) (a .skipping) (a .last)
 
--- src/blocks.rt:136:13
 turn-at-requires : tie.Need-turn-at-requires Inv-loop μ-loop
 turn-at-requires c κs =
     let a = c .before .before .before .before .before .args in
     let l = c .before .before .loop in
     (l .inv .within, (going-room (a .input .now) (a .out .now) (a .skipping) (a .last) (l .used) (l .wrote) (l .skip) (l .out) (l .inv), c .before .before .before .before .before .pre))
 
--- src/blocks.rt:135:5
 loop-less : tie.Need-loop-less Inv-loop μ-loop
 loop-less c =
     let a = c .before .before .before .before .before .before .before .before .before .before .args in
     let l = c .before .before .before .before .before .before .before .loop in
     omega (arith, turn-ahead (a .input .now) (a .out .now) (a .skipping) (a .last) (l .used) (l .wrote) (l .skip) (l .out) (l .inv) (c .before .before .before .before .turn-at .result) (c .before .before .before .before .turn-at .last .1 .1 .0) (c .before .before .before .before .turn-at .ensures) (c .if1 .left))
 
--- src/blocks.rt:135:5
 loop-again : tie.Need-loop-again Inv-loop μ-loop
 loop-again c =
     let a = c .before .before .before .before .before .before .before .before .before .before .args in
     let l = c .before .before .before .before .before .before .before .loop in
     going-on (a .input .now) (a .out .now) (a .skipping) (a .last) (l .used) (l .wrote) (l .skip) (l .out) (l .inv) (c .before .before .before .before .turn-at .result) (c .before .before .before .before .turn-at .last .1 .1 .0) (c .before .before .before .before .turn-at .ensures) (c .before .before .before .before .before .before .loop-test .taken) (c .if1 .left)
 
--- src/blocks.rt:129:1
 same-length : tie.Need-same-length Inv-loop μ-loop
 same-length c =
     let a = c .before .before .before .before .args in
     let l = c .before .loop in
     going-length (a .input .now) (a .out .now) (a .skipping) (a .last) (l .used) (l .wrote) (l .skip) (l .out) (l .inv)
 
--- src/blocks.rt:129:1
 returns : tie.Need-returns Inv-loop μ-loop
 returns c =
     let a = c .before .before .before .before .args in
     let l = c .before .loop in
     going-out (a .input .now) (a .out .now) (a .skipping) (a .last) (l .used) (l .wrote) (l .skip) (l .out) (l .inv) (c .loop-test .left)
 
--- src/blocks.rt:129:1
 same-length-2 : tie.Need-same-length-2 Inv-loop μ-loop
 same-length-2 c =
     let a = c .before .before .before .before .before .before .before .before .before .before .args in
     let l = c .before .before .before .before .before .before .before .loop in
     ap length (sym (kept (a .input .now) (a .out .now) (a .skipping) (a .last) (l .used) (l .wrote) (l .skip) (l .out) (l .inv) (c .before .before .before .before .turn-at .result) (c .before .before .before .before .turn-at .last .1 .1 .0) (c .before .before .before .before .turn-at .ensures) (c .if1 .taken))) ∙ going-length (a .input .now) (a .out .now) (a .skipping) (a .last) (l .used) (l .wrote) (l .skip) (l .out) (l .inv)
 
--- src/blocks.rt:129:1
 returns-2 : tie.Need-returns-2 Inv-loop μ-loop
 returns-2 c =
     let a = c .before .before .before .before .before .before .before .before .before .before .args in

@@ -1,18 +1,16 @@
+-- `line::lines::answer_line` meets its contract: the reply's text is the line's answer. Assumes nothing.
 use mathlib.Core.Path.{_∙_, ap}
 use Rattle.line.specs.Answers.{wroteOf, placed}
 use borrow.Author.Needs.{needs}
 use Rattle.line.proofs.lines.answer_line.Statement.{statement}
 use Rattle.line.proofs.lines.answer_line.Tie as tie
 
--- src/lines.rt:87:9
 line-reply-requires : tie.Need-line-reply-requires
 line-reply-requires c κs = search needs
 
--- src/lines.rt:88:5
 answer-at-requires : tie.Need-answer-at-requires
 answer-at-requires c κs = search needs
 
--- src/lines.rt:83:1
 returns : tie.Need-returns
 returns c =
     let a = c .before .before .before .before .before .before .before .args in
@@ -20,7 +18,6 @@ returns c =
     let d = c .before .before .answer-at .ensures in
     (d .0 ∙ ap (wroteOf (a .out .now) (a .at)) e, d .1 ∙ ap (placed (a .out .now) (a .at)) e)
 
--- src/lines.rt:83:1
 same-length : tie.Need-same-length
 same-length c = search needs
 

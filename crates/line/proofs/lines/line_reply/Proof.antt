@@ -1,3 +1,5 @@
+-- `line::lines::line_reply` meets its contract: what was read from the start is the line's request only where it ends with the
+-- line. Assumes nothing.
 use mathlib.Core.Path.{sym, _∙_, ap, subst}
 use Rattle.reply.specs.Answers.{replyText, Keyed}
 use Rattle.reply.proofs.Replies.{reply-keyed}
@@ -6,7 +8,6 @@ use borrow.Author.Needs.{needs}
 use Rattle.line.proofs.lines.line_reply.Statement.{statement}
 use Rattle.line.proofs.lines.line_reply.Tie as tie
 
--- src/lines.rt:74:9
 scaled-powers-requires : tie.Need-scaled-powers-requires
 scaled-powers-requires c κs = search needs
 
@@ -21,18 +22,15 @@ reply-at-requires c κs =
     let t = c .before .before .before in
     record { scaled = t .before .before .scaled-powers .ensures; reached = t .before .level-thresholds .ensures; started = t .level-starts .ensures }
 
--- src/lines.rt:76:9
 returns : tie.Need-returns
 returns c =
     let r = c .before .before in
     let a = r .before .before .before .before .before .before .before .before .args in
     (line-whole (a .line .now) (r .reply-at .result) (r .reply-at .ensures) (c .if1 .taken), reply-keyed (a .line .now) 0 (r .reply-at .result) (r .reply-at .ensures))
 
--- src/lines.rt:78:5
 no-reply-requires : tie.Need-no-reply-requires
 no-reply-requires c κs = search needs
 
--- src/lines.rt:70:1
 returns-2 : tie.Need-returns-2
 returns-2 c =
     let r = c .before .before .before in

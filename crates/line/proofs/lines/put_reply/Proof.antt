@@ -1,3 +1,4 @@
+-- `line::lines::put_reply` meets its contract: behind the head that was written, the fields go into the tail. Assumes nothing.
 use mathlib.Core.Path.{sym, _∙_, ap}
 use mathlib.Core.List.{_∷_, _++_}
 use Prim.Native.Nat.{_+_}
@@ -11,19 +12,16 @@ use borrow.Author.Needs.{needs}
 use Rattle.line.proofs.lines.put_reply.Statement.{statement}
 use Rattle.line.proofs.lines.put_reply.Tie as tie
 
--- src/lines.rt:41:9
 put-none-requires : tie.Need-put-none-requires
 put-none-requires c κs =
     let a = c .before .before .before .before .before .args in
     omega (arith, c .before .before .before .before .before .pre .1, none-length, ap length (reply-none (a .s .now) (a .reply) (c .before .if1 .taken)))
 
--- src/lines.rt:42:9
 returns : tie.Need-returns
 returns c =
     let a = c .before .before .before .before .before .before .before .before .args in
     c .before .before .put-none .ensures ∙ ap (λ t. front t (a .out .now)) (sym (reply-none (a .s .now) (a .reply) (c .before .before .before .before .if1 .taken)))
 
--- src/lines.rt:46:5
 put-head-requires : tie.Need-put-head-requires
 put-head-requires c κs =
     let a = c .before .before .before .before .before .args in
@@ -34,11 +32,9 @@ put-head-requires c κs =
     let h = reply-length (a .s .now) r some (q .0) in
     (q .0 .within, omega arith)
 
--- src/lines.rt:47:16
 add-rest : tie.Need-add-rest
 add-rest c = search needs
 
--- src/lines.rt:49:22
 sub-put-rated : tie.Need-sub-put-rated
 sub-put-rated c =
     let a = c .before .before .before .before .before .before .before .before .args in
@@ -52,7 +48,6 @@ sub-put-rated c =
     let e = c .before .before .put-head .ensures in
     tail-within t l (3 + r .len) e (sym g) (omega arith)
 
--- src/lines.rt:49:22
 part-put-rated-start : tie.Need-part-put-rated-start
 part-put-rated-start c =
     let a = c .before .before .before .before .before .before .before .before .args in
@@ -66,11 +61,9 @@ part-put-rated-start c =
     let e = c .before .before .put-head .ensures in
     tail-within t l (3 + r .len) e (sym g) (omega arith)
 
--- src/lines.rt:49:22
 part-put-rated-end : tie.Need-part-put-rated-end
 part-put-rated-end c = search needs
 
--- src/lines.rt:49:5
 put-rated-requires : tie.Need-put-rated-requires
 put-rated-requires c κs =
     let a = c .before .before .before .before .before .before .before .before .before .args in
@@ -84,7 +77,6 @@ put-rated-requires c κs =
     let e = c .before .before .before .put-head .ensures in
     omega (arith, tail-length t l (3 + r .len) e (sym g) (omega arith))
 
--- src/lines.rt:35:1
 returns-2 : tie.Need-returns-2
 returns-2 c =
     let a = c .before .before .before .before .before .before .before .before .before .before .before .before .args in
@@ -99,11 +91,9 @@ returns-2 c =
     tail-home t l (3 + r .len) e (sym g) (omega arith) (others (fieldsOf (r .rated))) (c .before .before .put-rated .ensures)
     ∙ ap (λ t. front t l) (sym (reply-some (a .s .now) r some))
 
--- src/lines.rt:42:9
 same-length : tie.Need-same-length
 same-length c = search needs
 
--- src/lines.rt:35:1
 same-length-2 : tie.Need-same-length-2
 same-length-2 c = search needs
 

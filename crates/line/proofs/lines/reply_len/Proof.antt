@@ -1,3 +1,4 @@
+-- `line::lines::reply_len` meets its contract: the head is three bytes and the key, `rated_len` the rest. Assumes nothing.
 use mathlib.Core.Path.{sym, _∙_, ap}
 use native.Mathlib.Omega.{arith}
 use lib.ListN.{length}
@@ -7,25 +8,20 @@ use borrow.Author.Needs.{needs}
 use Rattle.line.proofs.lines.reply_len.Statement.{statement}
 use Rattle.line.proofs.lines.reply_len.Tie as tie
 
--- src/lines.rt:28:9
 returns : tie.Need-returns
 returns c =
     let a = c .before .before .before .args in
     none-length ∙ sym (ap length (reply-none (a .s .now) (a .reply) (c .if1 .taken)))
 
--- src/lines.rt:31:5
 add-result : tie.Need-add-result
 add-result c = search needs
 
--- src/lines.rt:31:21
 rated-len-requires : tie.Need-rated-len-requires
 rated-len-requires c κs = search needs
 
--- src/lines.rt:31:5
 add-result-2 : tie.Need-add-result-2
 add-result-2 c = search needs
 
--- src/lines.rt:23:1
 returns-2 : tie.Need-returns-2
 returns-2 c =
     let a = c .before .before .before .before .before .args in

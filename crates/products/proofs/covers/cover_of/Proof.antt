@@ -7,7 +7,7 @@ use Rattle.curve.specs.Bands.{accepted}
 use Rattle.rating.specs.declared.kinds.Kind.the-variants.{I3}
 use Rattle.rating.specs.Sheets.{ratedOf}
 use Rattle.products.specs.Covers.{derivedSet}
-use Rattle.products.proofs.Small.{rated-by}
+use Rattle.rating.proofs.Small.{rated-by}
 use Rattle.products.proofs.Improvements.{cover-count, cover-range, cover-derived, cover-made}
 use Rattle.products.proofs.covers.cover_of.Statement.{statement}
 use Rattle.products.proofs.covers.cover_of.Tie as tie

@@ -4,7 +4,7 @@ use borrow.Author.Needs.{needs}
 use mathlib.Core.Path.{sym, _∙_, ap}
 use lib.IntN.{ℤ, _+ℤ_}
 use Rattle.products.specs.declared.grades.Side.{Side}
-use Rattle.products.specs.Bounds.{Small}
+use Rattle.rating.specs.Bounds.{Small}
 use Rattle.products.specs.Grades.{decidingOf}
 use Rattle.products.proofs.Signed.{sum-fits, sum-is}
 use Rattle.products.proofs.grades.deciding_of.Statement.{statement}

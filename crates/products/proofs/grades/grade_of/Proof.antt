@@ -2,7 +2,7 @@
 use borrow.Author.Needs.{needs}
 use mathlib.Core.Path.{sym, _∙_}
 use Rattle.rating.specs.declared.kinds.Kind.the-variants.{A3}
-use Rattle.products.proofs.Small.{rated-by}
+use Rattle.rating.proofs.Small.{rated-by}
 use Rattle.products.proofs.Gradings.{specimen-refused, mean-refused, mean-graded}
 use Rattle.products.proofs.grades.grade_of.Statement.{statement}
 use Rattle.products.proofs.grades.grade_of.Tie as tie

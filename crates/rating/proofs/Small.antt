@@ -17,21 +17,20 @@ use Rattle.energy.specs.Energies.{u}
 use Rattle.curve.specs.Bands.{accepted}
 use Rattle.curve.specs.Levels.{at, Entries, levelAt, leastOf, energiesOf, startAt}
 use Rattle.curve.proofs.Searched.{count-most, count-some, level-at-most, least-below, Found, found}
 use Rattle.rating.specs.declared.kinds.Kind.{Kind}
 use Rattle.rating.specs.declared.kinds.Kind.the-variants.{A3, A1, I3, I1}
 use Rattle.rating.specs.declared.sheets.Sheet.{Sheet}
 use Rattle.rating.specs.declared.sheets.Term.{Term}
 use Rattle.rating.specs.declared.sheets.Rated.the-variants.{Rating, Refused}
 use Rattle.rating.specs.Kinds.{airborne, bandsOf, limitOf}
 use Rattle.rating.specs.Curve.{firstFrom, ratingOf, shiftsOf, within, shifted, startOf}
-use Rattle.rating.specs.Sheets.{asked, secondBy, sheetOf, ratedOf}
+use Rattle.rating.specs.Sheets.{asked, secondBy, sheetOf, ratedOf, termOf}
 use Rattle.rating.specs.Numbers.{entriesOf, firstOf, secondOf, startAdd, ratingAt, ratingBy, termOf as termAt}
 use Rattle.rating.proofs.Facts.{count-of, first-fit, second-fit}
 use Rattle.rating.proofs.Weighing.{u-small, term-small}
 use Rattle.rating.proofs.Meaning.{start-below, rating-is}
 use Rattle.rating.proofs.Sheeted.{first-is, second-given}
-use Rattle.products.specs.Bounds.{Small, SmallSheet}
-use Rattle.products.specs.Grades.{termOf}
+use Rattle.rating.specs.Bounds.{Small, SmallSheet}
 
 rating-by : (sign : Bool) (o p : ℕ) → o < 200 → p < 500 → (P (ratingBy sign o p) < 500) × (N (ratingBy sign o p) < 500)
 rating-by true o p h k =

@@ -3,8 +3,8 @@
 use Prim.Native.Nat.{_≤_}
 use lib.IntN.{ℤ}
 use Rattle.laws.specs.Parts.{P, N}
 use Rattle.rating.specs.declared.sheets.Sheet.{Sheet}
-use Rattle.products.specs.Grades.{termOf}
+use Rattle.rating.specs.Sheets.{termOf}
 
 abbrev pub Small : ℤ → Type 0
 Small z = (P z ≤ 10000) × (N z ≤ 10000)

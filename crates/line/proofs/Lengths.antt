@@ -21,10 +21,9 @@ use Rattle.rating.specs.declared.sheets.Rated.{Rated}
 use Rattle.rating.specs.declared.sheets.Rated.the-variants.{Rating, Refused}
 use Rattle.rating.specs.Kinds.{bandsOf}
 use Rattle.curve.specs.Bands.{accepted}
-use Rattle.rating.specs.Sheets.{asked, sheetOf, ratedOf}
-use Rattle.products.specs.Bounds.{Small, SmallSheet}
-use Rattle.products.specs.Grades.{termOf}
-use Rattle.products.proofs.Small.{shifts-most, rating-near, sheet-small}
+use Rattle.rating.specs.Sheets.{asked, sheetOf, ratedOf, termOf}
+use Rattle.rating.specs.Bounds.{Small, SmallSheet}
+use Rattle.rating.proofs.Small.{shifts-most, rating-near, sheet-small}
 use Rattle.answer.specs.Texts.{others, lineText, numberText, termText, kindText, fieldsOf, ratedText}
 use Rattle.answer.proofs.Decimals.{digits-most}
 use Rattle.answer.proofs.Writers.{number-small, none-length, others-length, sheet-length, refused-length}
@@ -34,7 +33,6 @@ use Rattle.request.specs.Reading.Request.{none, request}
 use Rattle.request.specs.Gathering.{firstFault}
 use Rattle.request.proofs.Wholes.{text-of, kind-two}
 use Rattle.reply.specs.Answers.{setOf, judgedBy, judged, answerTo, answerOf}
-use Rattle.line.proofs.Meaning.{Roomy}
 
 -- a number of k digits, with its minus
 number-most : (k : ℕ) (z : ℤ) → P z < 10 ^ suc k → N z < 10 ^ suc k → length (numberText z) ≤ suc (suc k)
@@ -107,6 +105,3 @@ answer-short line = go (requestOf line) refl
           text-of line kind key bands e .key-ok .most,
           judged-most kind bands,
         )
-
-pub roomy : Roomy 64
-roomy = record { most = answer-short }
