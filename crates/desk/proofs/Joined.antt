@@ -4,7 +4,7 @@ use mathlib.Core.List.{List}
 use Prim.Native.Nat.{ℕ}
 use Rattle.quantity.specs.declared.quantities.Reading.{Reading}
 use Rattle.quantity.specs.declared.refusals.Refusal.{Refusal}
-use Rattle.measurement.specs.declared.lists.Outcome.the-variants as outcome
+use Rattle.quantity.specs.declared.refusals.Outcome.the-variants as outcome
 use Rattle.measurement.specs.declared.lists.Intake.{Intake}
 use Rattle.measurement.specs.Lists.{listOf}
 use Rattle.rating.specs.declared.kinds.Kind.{Kind}

@@ -3,8 +3,8 @@ use mathlib.Core.List.{List}
 use Prim.Native.Nat.{ℕ}
 use Rattle.quantity.specs.declared.quantities.BandSet.{BandSet}
 use Rattle.quantity.specs.declared.quantities.Reading.{Reading}
-use Rattle.measurement.specs.declared.lists.Outcome.{Outcome}
-use Rattle.measurement.specs.declared.lists.Outcome.the-variants as outcome
+use Rattle.quantity.specs.declared.refusals.Outcome.{Outcome}
+use Rattle.quantity.specs.declared.refusals.Outcome.the-variants as outcome
 use Rattle.measurement.specs.Lists.{listOf}
 use Rattle.rating.specs.declared.kinds.Kind.{Kind}
 use Rattle.rating.specs.declared.sheets.Rated.the-variants.{Refused}

@@ -1,8 +1,8 @@
 // Readings and ratings.
 use intake::Taken;
-use measurement::Outcome;
 use measurement::take_list;
 use quantity::BandSet;
+use quantity::Outcome;
 use quantity::Reading;
 use rating::Kind;
 use rating::Rated;

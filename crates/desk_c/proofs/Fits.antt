@@ -11,8 +11,8 @@ use Rattle.quantity.specs.Quantities.{bandOf}
 use Rattle.quantity.specs.declared.quantities.BandSet.{BandSet}
 use Rattle.quantity.specs.declared.quantities.Reading.{Reading}
 use Rattle.quantity.specs.declared.refusals.Refusal.the-variants.{BandCount, BandRange}
-use Rattle.measurement.specs.declared.lists.Outcome.{Outcome}
-use Rattle.measurement.specs.declared.lists.Outcome.the-variants as outcome
+use Rattle.quantity.specs.declared.refusals.Outcome.{Outcome}
+use Rattle.quantity.specs.declared.refusals.Outcome.the-variants as outcome
 use Rattle.measurement.specs.Lists.{listOf}
 use Rattle.curve.specs.Bands.{accepted}
 use Rattle.rating.specs.declared.kinds.Kind.{Kind}

@@ -1,10 +1,10 @@
 // Putting an answer's numbers into a lent array.
 use intake::Taken;
 use measurement::Intake;
-use measurement::Outcome;
 use products::Cover;
 use products::Graded;
 use quantity::BandSet;
+use quantity::Outcome;
 use rating::Rated;
 use rating::Term;
 ghost use mathlib.Core.Path.{_≡_};

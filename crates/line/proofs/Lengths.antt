@@ -2,7 +2,7 @@
 use mathlib.Core.Path.{_≡_, refl}
 use mathlib.Core.Bool.{Bool, true, false}
 use mathlib.Core.List.{List, _∷_}
-use Prim.Native.Nat.{ℕ, zero, suc, _^_, _≤_, _<_}
+use Prim.Native.Nat.{ℕ, suc, _^_, _≤_, _<_}
 use native.Mathlib.Omega.{arith}
 use lib.Dec.{eqb}
 use lib.IntN.{ℤ, pos, negsuc}
@@ -12,7 +12,9 @@ use Rattle.quantity.specs.Quantities.{bandOf}
 use Rattle.quantity.specs.Refusals.{numberOf}
 use Rattle.quantity.specs.declared.quantities.BandSet.{BandSet}
 use Rattle.quantity.specs.declared.refusals.Refusal.{Refusal}
-use Rattle.quantity.specs.declared.refusals.Refusal.the-variants.{BandCount, NoReading, BandRange}
+use Rattle.quantity.specs.declared.refusals.Refusal.the-variants.{BandCount, BandRange}
+use Rattle.quantity.specs.declared.refusals.Outcome.{Outcome}
+use Rattle.quantity.specs.declared.refusals.Outcome.the-variants as outcome
 use Rattle.rating.specs.declared.kinds.Kind.{Kind}
 use Rattle.rating.specs.declared.sheets.Sheet.{Sheet}
 use Rattle.rating.specs.declared.sheets.Term.{Term}
@@ -78,12 +80,9 @@ judged-most : (k : Kind) (bands : List Band) → length (others (fieldsOf (judge
 unfolding judged
 judged-most k bands = go (eqb (length bands) (bandsOf k))
   where
-    by : (n : ℕ) (r : Rated) → length (others (fieldsOf r)) ≤ 29 → length (others (fieldsOf (judgedBy n r))) ≤ 29
-    by zero r h = h
-    by (suc zero) r h = refused-most BandRange
-    by (suc (suc zero)) r h = refused-most BandRange
-    by (suc (suc (suc zero))) r h = refused-most NoReading
-    by (suc (suc (suc (suc n)))) r h = refused-most BandRange
+    by : (o : Outcome) (r : Rated) → length (others (fieldsOf r)) ≤ 29 → length (others (fieldsOf (judgedBy o r))) ≤ 29
+    by outcome.Accepted r h = h
+    by (outcome.Refused q) r h = refused-most q
 
     go : (t : Bool) → length (others (fieldsOf (elim t [ true ↦ judgedBy (firstFault bands) (ratedOf k (setOf bands)) | false ↦ Refused BandCount ]))) ≤ 29
     go true = by (firstFault bands) (ratedOf k (setOf bands)) (rated-most k (setOf bands))

@@ -12,7 +12,7 @@ use Rattle.quantity.specs.Quantities.{inRange, bandOf}
 use Rattle.quantity.specs.declared.quantities.Tenths.{Tenths}
 use Rattle.quantity.specs.declared.quantities.BandSet.{BandSet}
 use Rattle.quantity.specs.declared.quantities.Reading.{Reading}
-use Rattle.measurement.specs.declared.lists.Outcome.the-variants.{Accepted}
+use Rattle.quantity.specs.declared.refusals.Outcome.the-variants.{Accepted}
 use Rattle.measurement.specs.declared.lists.Readings.{Readings}
 use Rattle.measurement.specs.declared.lists.Intake.{Intake}
 use Rattle.measurement.specs.Lists.{nought, allOf, refusalIn}

@@ -19,12 +19,13 @@ use Rattle.quantity.specs.declared.quantities.Reading.{Reading}
 use Rattle.quantity.specs.declared.quantities.Reading.the-variants.{Level}
 use Rattle.quantity.specs.declared.refusals.Refusal.{Refusal}
 use Rattle.quantity.specs.declared.refusals.Refusal.the-variants.{BandCount}
+use Rattle.quantity.specs.Refusals.{orElse}
 use Rattle.intake.specs.declared.singles.Taken.{Taken}
 use Rattle.intake.specs.declared.singles.Taken.the-variants as one
-use Rattle.measurement.specs.declared.lists.Outcome.{Outcome}
-use Rattle.measurement.specs.declared.lists.Outcome.the-variants.{Accepted, Refused}
+use Rattle.quantity.specs.declared.refusals.Outcome.{Outcome}
+use Rattle.quantity.specs.declared.refusals.Outcome.the-variants.{Accepted, Refused}
 use Rattle.measurement.specs.declared.lists.Intake.{Intake}
-use Rattle.measurement.specs.Lists.{takenAt, nought, valueOf, limitOf, after, refusalIn, weightOf, marksIn, valuesIn, setOf, refusedList, listBy, listOf}
+use Rattle.measurement.specs.Lists.{takenAt, nought, valueOf, limitOf, outcomeOf, refusalIn, weightOf, marksIn, valuesIn, setOf, refusedList, listBy, listOf}
 use Rattle.intake.proofs.Meaning.{taken-range}
 use Rattle.measurement.proofs.Runs.{marks-bound, value-at}
 
@@ -45,7 +46,7 @@ pub record Kept (t : Taken) : Type 0 where
   pub limit : Bool
   pub same : t ≡ one.Value value limit
 
-after-accepted : (o : Outcome) (t : Taken) → after o t ≡ Accepted → (o ≡ Accepted) × Kept t
+after-accepted : (o : Outcome) (t : Taken) → orElse o (outcomeOf t) ≡ Accepted → (o ≡ Accepted) × Kept t
 after-accepted Accepted (one.Value v l) e = (refl, record { value = v; limit = l; same = refl })
 after-accepted Accepted (one.Refused r) e = absurd (clash (cc))
 after-accepted (Refused r) t e = absurd (clash (cc))
@@ -101,7 +102,7 @@ module _ (readings : List Reading) where
   first-refusal zero r e = absurd (clash (cc))
   first-refusal (suc n) r e = go (refusalIn readings n) (takenAt readings n) refl refl e (λ f. first-refusal n r f)
     where
-      go : (o : Outcome) (t : Taken) → refusalIn readings n ≡ o → takenAt readings n ≡ t → after o t ≡ Refused r
+      go : (o : Outcome) (t : Taken) → refusalIn readings n ≡ o → takenAt readings n ≡ t → orElse o (outcomeOf t) ≡ Refused r
           → (refusalIn readings n ≡ Refused r → Met n r) → Met (suc n) r
       go Accepted (one.Value v l) f g h below = absurd (clash (cc))
       go Accepted (one.Refused q) f g h below =

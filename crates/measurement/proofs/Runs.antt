@@ -16,13 +16,14 @@ use Rattle.quantity.specs.declared.quantities.Tenths.{Tenths}
 use Rattle.quantity.specs.declared.quantities.Reading.{Reading}
 use Rattle.quantity.specs.declared.refusals.Refusal.{Refusal}
 use Rattle.quantity.specs.declared.refusals.Refusal.the-variants.{BandCount}
+use Rattle.quantity.specs.Refusals.{orElse}
 use Rattle.intake.specs.declared.singles.Taken.{Taken}
 use Rattle.intake.specs.declared.singles.Taken.the-variants as one
-use Rattle.measurement.specs.declared.lists.Outcome.{Outcome}
-use Rattle.measurement.specs.declared.lists.Outcome.the-variants.{Accepted, Refused}
+use Rattle.quantity.specs.declared.refusals.Outcome.{Outcome}
+use Rattle.quantity.specs.declared.refusals.Outcome.the-variants.{Accepted, Refused}
 use Rattle.measurement.specs.declared.lists.Readings.{Readings}
 use Rattle.measurement.specs.declared.lists.Intake.{Intake}
-use Rattle.measurement.specs.Lists.{takenAt, nought, valueOf, limitOf, after, refusalIn, weightOf, marksIn, listed, valueIn, valuesIn, refusedAll, refusedList, allBy, allOf, listBy, listOf}
+use Rattle.measurement.specs.Lists.{takenAt, nought, valueOf, limitOf, outcomeOf, refusalIn, weightOf, marksIn, listed, valueIn, valuesIn, refusedAll, refusedList, allBy, allOf, listBy, listOf}
 
 -- ---- lists by index
 
@@ -112,7 +113,7 @@ module _ (readings : List Reading) where
 
   -- ---- refusals
 
-  pub refusal-more : (n : ℕ) → refusalIn readings (n + 1) ≡ after (refusalIn readings n) (takenAt readings n)
+  pub refusal-more : (n : ℕ) → refusalIn readings (n + 1) ≡ orElse (refusalIn readings n) (outcomeOf (takenAt readings n))
   unfolding refusalIn
   refusal-more n = ap (refusalIn readings) (add-one n)
 
@@ -121,7 +122,7 @@ module _ (readings : List Reading) where
   refusal-stays n zero r e = ap (refusalIn readings) (zero-add n) ∙ e
   refusal-stays n (suc k) r e =
       let q : suc k + n ≡ suc (k + n) = omega arith in
-      ap (refusalIn readings) q ∙ ap (λ (o : Outcome). after o (takenAt readings (k + n))) (refusal-stays n k r e)
+      ap (refusalIn readings) q ∙ ap (λ (o : Outcome). orElse o (outcomeOf (takenAt readings (k + n)))) (refusal-stays n k r e)
 
 -- ---- the loop over the readings: so far none was refused
 
@@ -154,8 +155,8 @@ taking-more readings count values marks i v limit w h g t e f = record {
   within = omega arith;
   accepted =
       refusal-more readings i
-      ∙ ap (λ (o : Outcome). after o (takenAt readings i)) (t .accepted)
-      ∙ ap (after Accepted) e;
+      ∙ ap (λ (o : Outcome). orElse o (outcomeOf (takenAt readings i))) (t .accepted)
+      ∙ ap outcomeOf e;
   held =
       ap (λ (l : List Tenths). set l i v) (t .held)
       ∙ ap (λ (x : Taken). set (valuesIn readings i 48) i (valueOf x)) (sym e)
@@ -181,7 +182,7 @@ refused-at readings count values marks i r h t e =
     let q : count - (i + 1) + (i + 1) ≡ count = omega arith in
     ap (refusalIn readings) (sym q)
     ∙ refusal-stays readings (i + 1) (count - (i + 1)) r
-    (refusal-more readings i ∙ ap (λ (o : Outcome). after o (takenAt readings i)) (t .accepted) ∙ ap (after Accepted) e)
+    (refusal-more readings i ∙ ap (λ (o : Outcome). orElse o (outcomeOf (takenAt readings i))) (t .accepted) ∙ ap outcomeOf e)
 
 pub refused-all : (readings : List Reading) (count : ℕ) (r : Refusal) → refusalIn readings count ≡ Refused r → refusedAll r ≡ allOf readings count
 unfolding allOf

@@ -12,10 +12,11 @@ use Rattle.quantity.specs.declared.quantities.Reading.{Reading}
 use Rattle.quantity.specs.declared.quantities.Reading.the-variants.{Level}
 use Rattle.quantity.specs.declared.refusals.Refusal.{Refusal}
 use Rattle.quantity.specs.declared.refusals.Refusal.the-variants.{BandCount}
+use Rattle.quantity.specs.Refusals.{orElse}
 use Rattle.intake.specs.declared.singles.Taken.{Taken}
 use Rattle.intake.specs.declared.singles.Taken.the-variants as one
-use Rattle.measurement.specs.declared.lists.Outcome.{Outcome}
-use Rattle.measurement.specs.declared.lists.Outcome.the-variants.{Accepted, Refused}
+use Rattle.quantity.specs.declared.refusals.Outcome.{Outcome}
+use Rattle.quantity.specs.declared.refusals.Outcome.the-variants.{Accepted, Refused}
 use Rattle.measurement.specs.declared.lists.Readings.{Readings}
 use Rattle.measurement.specs.declared.lists.Intake.{Intake}
 use Rattle.intake.specs.Taken.{takenOf}
@@ -36,16 +37,15 @@ abbrev pub limitOf : Taken → Bool
 limitOf (one.Value t limit) = limit
 limitOf (one.Refused r) = false
 
--- the outcome with one more reading: a refusal that stands is kept
-abbrev pub after : Outcome → Taken → Outcome
-after Accepted (one.Value t limit) = Accepted
-after Accepted (one.Refused r) = Refused r
-after (Refused r) t = Refused r
+-- the refusal that it gives, if it was not
+abbrev pub outcomeOf : Taken → Outcome
+outcomeOf (one.Value t limit) = Accepted
+outcomeOf (one.Refused r) = Refused r
 
 -- the first refusal among the first n readings, from the lowest
 unfoldable pub refusalIn : List Reading → ℕ → Outcome
 refusalIn readings zero = Accepted
-refusalIn readings (suc n) = after (refusalIn readings n) (takenAt readings n)
+refusalIn readings (suc n) = orElse (refusalIn readings n) (outcomeOf (takenAt readings n))
 
 -- what a limit value adds to the marks at place i: bit i
 abbrev pub weightOf : Bool → ℕ → ℕ

@@ -5,7 +5,6 @@
 mod lists;
 
 pub use lists::Intake;
-pub use lists::Outcome;
 pub use lists::Readings;
 pub use lists::take_all;
 pub use lists::take_list;

@@ -2,18 +2,13 @@
 use intake::Taken;
 use intake::take_reading;
 use quantity::BandSet;
+use quantity::Outcome;
 use quantity::Reading;
 use quantity::Refusal;
 use quantity::Tenths;
 ghost use mathlib.Core.Path.{_≡_};
 ghost use Prim.Native.Nat.{_≤_, _<_};
 ghost use Rattle.measurement.specs.Lists.{allOf, listOf, weightOf, refusedAll, refusedList, headOf};
-
-// Whether all was taken.
-pub enum Outcome {
-    Accepted,
-    Refused(Refusal),
-}
 
 // Many readings: bit i of `marks` says that reading i is a limit value. Where the outcome is a refusal the rest is 0.
 pub struct Readings {

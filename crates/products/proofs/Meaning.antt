@@ -3,7 +3,7 @@ use mathlib.Core.Path.{_≡_, refl, sym, _∙_, ap}
 use mathlib.Core.List.{List}
 use Rattle.quantity.specs.declared.quantities.BandSet.{BandSet}
 use Rattle.quantity.specs.declared.quantities.Reading.{Reading}
-use Rattle.measurement.specs.declared.lists.Outcome.the-variants.{Accepted}
+use Rattle.quantity.specs.declared.refusals.Outcome.the-variants.{Accepted}
 use Rattle.measurement.specs.declared.lists.Readings.{Readings}
 use Rattle.measurement.specs.declared.lists.Intake.{Intake}
 use Rattle.measurement.specs.Lists.{allOf, refusalIn}

@@ -1,7 +1,7 @@
 // The grade of a door or window.
 use means::specimens;
-use measurement::Outcome;
 use quantity::Decibels;
+use quantity::Outcome;
 use quantity::Reading;
 use quantity::Refusal;
 use rating::Kind;

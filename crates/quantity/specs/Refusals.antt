@@ -1,7 +1,9 @@
--- Document 01, "Refusal numbers": the number of each case.
+-- Document 01, "Refusal numbers": the number of each case, and the first of two.
 use Prim.Native.Nat.{ℕ}
 use Rattle.quantity.specs.declared.refusals.Refusal.{Refusal}
 use Rattle.quantity.specs.declared.refusals.Refusal.the-variants.{BandCount, NotFinite, NoReading, BandRange, Background, DerivedRange, TimeRange, NotBetter, TargetRange, NoRoom, NotRequest, SpecimenCount}
+use Rattle.quantity.specs.declared.refusals.Outcome.{Outcome}
+use Rattle.quantity.specs.declared.refusals.Outcome.the-variants.{Accepted, Refused}
 
 abbrev pub numberOf : Refusal → ℕ
 numberOf BandCount = 1
@@ -16,3 +18,8 @@ numberOf TargetRange = 9
 numberOf NoRoom = 10
 numberOf NotRequest = 11
 numberOf SpecimenCount = 12
+
+-- "Order: ..": a refusal that stands is kept
+abbrev pub orElse : Outcome → Outcome → Outcome
+orElse Accepted o = o
+orElse (Refused r) o = Refused r

@@ -11,4 +11,5 @@ pub use quantities::Decibels;
 pub use quantities::Hundredths;
 pub use quantities::Reading;
 pub use quantities::Tenths;
+pub use refusals::Outcome;
 pub use refusals::Refusal;

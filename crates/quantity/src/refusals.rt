@@ -29,6 +29,12 @@ pub enum Refusal {
     SpecimenCount,
 }
 
+// Whether all was taken, or the first refusal.
+pub enum Outcome {
+    Accepted,
+    Refused(Refusal),
+}
+
 impl Refusal {
     // The number that the paper gives this refusal.
     pub fn number(self) -> u32

@@ -11,7 +11,11 @@ use lib.ListN.{length, getD, replicate, take, drop, length-append, length-drop}
 use lib.Seq.{length-take-le}
 use Rattle.quantity.specs.Quantities.{inRange}
 use Rattle.quantity.specs.declared.quantities.Tenths.{Tenths}
+use Rattle.quantity.specs.declared.refusals.Refusal.{Refusal}
 use Rattle.quantity.specs.declared.refusals.Refusal.the-variants.{BandCount, NoReading, BandRange}
+use Rattle.quantity.specs.declared.refusals.Outcome.{Outcome}
+use Rattle.quantity.specs.declared.refusals.Outcome.the-variants as outcome
+use Rattle.quantity.specs.Refusals.{orElse}
 use Rattle.curve.specs.Bands.{accepted}
 use Rattle.curve.proofs.Walks.{all-made}
 use Rattle.rating.specs.declared.kinds.Kind.{Kind}
@@ -30,7 +34,7 @@ use Rattle.request.specs.Texts.Band.{missing, level}
 use Rattle.request.specs.Reading.{byteAt, Bands, bandsAt, keySpan, kindAt, Asked, withBands, withKey, withKind, requestAt}
 use Rattle.request.specs.Reading.Bands.{broken, ended}
 use Rattle.request.specs.Reading.Asked.{asked}
-use Rattle.request.specs.Gathering.{nought, valueOf, orElse, firstFault, marksOf, valuesOf, Holds, GatheredAt}
+use Rattle.request.specs.Gathering.{nought, valueOf, faultOf, firstFault, marksOf, valuesOf, Holds, GatheredAt}
 use Rattle.reply.specs.Answers.{setOf, judgedBy, judged, judgedIn, Clean, noReply, replyTo, replyAt, replyText, Keyed}
 use Rattle.request.proofs.Leaves.{inside}
 use Rattle.request.proofs.Stands.{Stands, fits}
@@ -53,20 +57,10 @@ module _ (kind : Kind) (r : Gathered) where
   by-fault : (n : ℕ) (x : Rated) → n ≡ bandsOf kind → r .count ≡ n → x ≡ judgedBy (r .fault) sheet → x ≡ judgedIn kind r
   by-fault n x e h f = rw (eq-eqb (r .count) (bandsOf kind) (h ∙ e)) f
 
-  pub judge-missing : (n : ℕ) → n ≡ bandsOf kind → r .count ≡ n → r .fault ≡ 3 → Refused NoReading ≡ judgedIn kind r
-  judge-missing n e h f = by-fault n (Refused NoReading) e h (rw f)
+  pub judge-refused : (n : ℕ) (q : Refusal) → n ≡ bandsOf kind → r .count ≡ n → r .fault ≡ outcome.Refused q → Refused q ≡ judgedIn kind r
+  judge-refused n q e h f = by-fault n (Refused q) e h (rw f)
 
-  pub judge-range : (n : ℕ) → n ≡ bandsOf kind → r .count ≡ n → (r .fault ≡ 3 → ⊥) → (r .fault ≡ 0 → ⊥) → Refused BandRange ≡ judgedIn kind r
-  judge-range n e h f g = by-fault n (Refused BandRange) e h (go (r .fault) f g)
-    where
-      go : (k : ℕ) → (k ≡ 3 → ⊥) → (k ≡ 0 → ⊥) → Refused BandRange ≡ judgedBy k sheet
-      go zero f g = absurd (g refl)
-      go (suc zero) f g = refl
-      go (suc (suc zero)) f g = refl
-      go (suc (suc (suc zero))) f g = absurd (f refl)
-      go (suc (suc (suc (suc k)))) f g = refl
-
-  pub judge-sheet : (n : ℕ) (x : Rated) → n ≡ bandsOf kind → r .count ≡ n → r .fault ≡ 0 → x ≡ sheet → x ≡ judgedIn kind r
+  pub judge-sheet : (n : ℕ) (x : Rated) → n ≡ bandsOf kind → r .count ≡ n → r .fault ≡ outcome.Accepted → x ≡ sheet → x ≡ judgedIn kind r
   judge-sheet n x e h f g = by-fault n x e h (rw f g)
 
 -- what the code gathered is judged as the bands are
@@ -92,28 +86,32 @@ judged-same kind bands r h =
         ≡ pick (eqb (length bands) (bandsOf kind))
     go true e =
         rw e
-        (ap (λ (f : ℕ). judgedBy f set) (h .fault)
+        (ap (λ (o : Outcome). judgedBy o set) (h .fault)
         ∙ ap (judgedBy (firstFault bands)) (sets (omega (arith, eqb-true (length bands) (bandsOf kind) e, sixteen kind))))
     go false e = rw e
 
 -- bands that give no refusal are in range, so that the set of them is accepted
-none-first : (z : ℤ) (n : ℕ) → orElse (cond (inRange z) 0 4) n ≡ 0 → inRange z ≡ true
-none-first z n e = go (inRange z) e
+refused-none : (r : Refusal) → _≡_ {A = Outcome} (outcome.Refused r) outcome.Accepted → ⊥
+refused-none r e = let z : _≡_ {A = ℕ} 0 1 = cc in omega arith
+
+none-first : (z : ℤ) (o : Outcome) → orElse (faultOf (level true z)) o ≡ outcome.Accepted → inRange z ≡ true
+none-first z o e = go (inRange z) e
   where
-    go : (t : Bool) → orElse (cond t 0 4) n ≡ 0 → t ≡ true
+    go : (t : Bool) → orElse (cond t outcome.Accepted (outcome.Refused BandRange)) o ≡ outcome.Accepted → t ≡ true
     go true e = refl
-    go false e = absurd (omega (arith, e))
+    go false e = absurd (refused-none BandRange e)
 
-none-after : (m n : ℕ) → orElse m n ≡ 0 → n ≡ 0
-none-after zero n e = e
-none-after (suc m) n e = absurd (omega (arith, e))
+none-after : (o p : Outcome) → orElse o p ≡ outcome.Accepted → p ≡ outcome.Accepted
+none-after outcome.Accepted p e = e
+none-after (outcome.Refused r) p e = absurd (refused-none r e)
 
-in-range-at : (bs : List Band) (rest : List Tenths) (i : ℕ) → firstFault bs ≡ 0 → i < length bs → inRange (getD (map valueOf bs ++ rest) i nought .0) ≡ true
+in-range-at : (bs : List Band) (rest : List Tenths) (i : ℕ) → firstFault bs ≡ outcome.Accepted → i < length bs
+    → inRange (getD (map valueOf bs ++ rest) i nought .0) ≡ true
 unfolding firstFault
 in-range-at [] rest i e h = absurd (omega arith)
-in-range-at (missing ∷ bs) rest i e h = absurd (omega (arith, e))
+in-range-at (missing ∷ bs) rest i e h = absurd (refused-none NoReading e)
 in-range-at (level limit z ∷ bs) rest zero e h = none-first z (firstFault bs) e
-in-range-at (level limit z ∷ bs) rest (suc i) e h = in-range-at bs rest i (none-after (cond (inRange z) 0 4) (firstFault bs) e) (omega arith)
+in-range-at (level limit z ∷ bs) rest (suc i) e h = in-range-at bs rest i (none-after (faultOf (level limit z)) (firstFault bs) e) (omega arith)
 
 pub clean-of : (kind : Kind) (b : Bands) (r : Gathered) → GatheredAt b r → (r .next ≡ 0 → ⊥) → Clean kind r
 unfolding accepted valuesOf

@@ -2,11 +2,13 @@
 use mathlib.Core.Bool.{true, false, cond}
 use mathlib.Core.List.{List}
 use mathlib.Core.Path.{_≡_}
-use Prim.Native.Nat.{ℕ, zero, suc, _+_, _≤_}
+use Prim.Native.Nat.{ℕ, _+_, _≤_}
 use lib.Dec.{leb, eqb}
 use lib.ListN.{length, take, drop}
 use Rattle.quantity.specs.declared.quantities.BandSet.{BandSet}
-use Rattle.quantity.specs.declared.refusals.Refusal.the-variants.{BandCount, NoReading, BandRange, NotRequest}
+use Rattle.quantity.specs.declared.refusals.Refusal.the-variants.{BandCount, NotRequest}
+use Rattle.quantity.specs.declared.refusals.Outcome.{Outcome}
+use Rattle.quantity.specs.declared.refusals.Outcome.the-variants as outcome
 use Rattle.rating.specs.declared.kinds.Kind.{Kind}
 use Rattle.rating.specs.declared.kinds.Kind.the-variants.{A3}
 use Rattle.rating.specs.declared.sheets.Rated.{Rated}
@@ -28,12 +30,9 @@ unfoldable pub setOf : List Band → BandSet
 setOf bands = record { values = valuesOf bands; marks = marksOf bands; len = length bands }
 
 -- "Order: 11, 12, 1; then bands from the lowest"; then the sheet
-abbrev pub judgedBy : ℕ → Rated → Rated
-judgedBy zero rated = rated
-judgedBy (suc zero) rated = Refused BandRange
-judgedBy (suc (suc zero)) rated = Refused BandRange
-judgedBy (suc (suc (suc zero))) rated = Refused NoReading
-judgedBy (suc (suc (suc (suc n)))) rated = Refused BandRange
+abbrev pub judgedBy : Outcome → Rated → Rated
+judgedBy outcome.Accepted rated = rated
+judgedBy (outcome.Refused r) rated = Refused r
 
 unfoldable pub judged : Kind → List Band → Rated
 judged kind bands = elim (eqb (length bands) (bandsOf kind)) [
@@ -76,7 +75,7 @@ judgedIn kind r =
 -- where none of them gives a refusal, all are in range
 abbrev pub Clean : Kind → Gathered → Type 0
 Clean kind r =
-    r .fault ≡ 0 → r .count ≡ bandsOf kind → accepted (record { values = r .values; marks = r .marks; len = r .count }) (bandsOf kind) ≡ true
+    r .fault ≡ outcome.Accepted → r .count ≡ bandsOf kind → accepted (record { values = r .values; marks = r .marks; len = r .count }) (bandsOf kind) ≡ true
 
 -- the key of a reply stands within the line
 pub record Keyed (s : List ℕ) (r : Reply) : Type 0 where

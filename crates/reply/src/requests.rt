@@ -1,5 +1,6 @@
 // Requests: kind, key and bands, and what they are answered.
 use quantity::BandSet;
+use quantity::Outcome;
 use quantity::Refusal;
 use rating::Kind;
 use rating::Rated;
@@ -44,19 +45,18 @@ fn judge(
         return Rated::Refused(Refusal::BandCount);
     }
     let fault = bands.fault;
-    if fault == 3 {
-        return Rated::Refused(Refusal::NoReading);
+    match fault {
+        Outcome::Refused(refusal) => Rated::Refused(refusal),
+        Outcome::Accepted => {
+            let values = bands.values;
+            let set = BandSet {
+                values,
+                marks: bands.marks,
+                len: count,
+            };
+            Rated::Rating(sheet_of(kind, set, powers, thresholds, starts))
+        }
     }
-    if fault != 0 {
-        return Rated::Refused(Refusal::BandRange);
-    }
-    let values = bands.values;
-    let set = BandSet {
-        values,
-        marks: bands.marks,
-        len: count,
-    };
-    Rated::Rating(sheet_of(kind, set, powers, thresholds, starts))
 }
 
 pub fn no_reply() -> Reply

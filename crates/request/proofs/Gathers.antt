@@ -9,30 +9,34 @@ use native.Mathlib.Omega.{arith}
 use lib.ListN.{length, set, replicate, length-append, length-map, length-set}
 use lib.Seq.{set-at}
 use Rattle.quantity.specs.declared.quantities.Tenths.{Tenths}
+use Rattle.quantity.specs.declared.refusals.Refusal.{Refusal}
+use Rattle.quantity.specs.declared.refusals.Outcome.{Outcome}
+use Rattle.quantity.specs.declared.refusals.Outcome.the-variants.{Accepted, Refused}
+use Rattle.quantity.specs.Refusals.{orElse}
 use Rattle.request.specs.declared.bands.Field.{Field}
 use Rattle.request.specs.declared.bands.Gathered.{Gathered}
 use Rattle.request.specs.Texts.{Band}
 use Rattle.request.specs.Reading.{byteAt, Found, bandAt, Bands, bandsFrom, bandsAt}
 use Rattle.request.specs.Reading.Found.{found}
 use Rattle.request.specs.Reading.Bands.{broken, ended}
-use Rattle.request.specs.Gathering.{nought, valueOf, markOf, faultOf, orElse, firstFault, bitOf, marksOf, valuesOf, fieldOf, weightBy, GatheredAt}
+use Rattle.request.specs.Gathering.{nought, valueOf, markOf, faultOf, firstFault, bitOf, marksOf, valuesOf, fieldOf, weightBy, GatheredAt}
 use Rattle.request.proofs.Leaves.{inside}
 use Rattle.request.proofs.Readers.{bands-tab, bands-broken, bands-end, bands-none}
 use Rattle.request.proofs.Exact.{band-ok, FoundOk}
 
 -- one band more, at the end
+or-none : (o : Outcome) → orElse o Accepted ≡ o
+or-none Accepted = refl
+or-none (Refused r) = refl
+
 fault-more : (bs : List Band) (b : Band) → firstFault (bs ++ (b ∷ [])) ≡ orElse (firstFault bs) (faultOf b)
 unfolding firstFault
-fault-more [] b = last (faultOf b)
-  where
-    last : (n : ℕ) → orElse n 0 ≡ n
-    last zero = refl
-    last (suc n) = refl
+fault-more [] b = or-none (faultOf b)
 fault-more (x ∷ bs) b = ap (orElse (faultOf x)) (fault-more bs b) ∙ regroup (faultOf x) (firstFault bs) (faultOf b)
   where
-    regroup : (l m n : ℕ) → orElse l (orElse m n) ≡ orElse (orElse l m) n
-    regroup zero m n = refl
-    regroup (suc l) m n = refl
+    regroup : (l m n : Outcome) → orElse l (orElse m n) ≡ orElse (orElse l m) n
+    regroup Accepted m n = refl
+    regroup (Refused r) m n = refl
 
 marks-more : (bs : List Band) (b : Band) → marksOf (bs ++ (b ∷ [])) ≡ marksOf bs + weightBy (markOf b) (2 ^ length bs)
 unfolding marksOf
@@ -76,7 +80,7 @@ pub record Few (bands : List Band) (values : List Tenths) (marks weight : ℕ) :
   pub values-are : values ≡ valuesOf bands
   pub weight-is : weight ≡ 2 ^ length bands
 
-pub record Gathering (s : List ℕ) (start : ℕ) (values : List Tenths) (marks weight count fault at : ℕ) : Type 0 where
+pub record Gathering (s : List ℕ) (start : ℕ) (values : List Tenths) (marks weight count : ℕ) (fault : Outcome) (at : ℕ) : Type 0 where
   pub bands : List Band
   pub fuel : ℕ
   pub same : bandsAt s start ≡ bandsFrom fuel s at bands
@@ -89,7 +93,7 @@ pub record Gathering (s : List ℕ) (start : ℕ) (values : List Tenths) (marks 
   pub high : weight ≤ 65536
   pub few : length bands ≤ 16 → Few bands values marks weight
 
-pub gather-start : (s : List ℕ) (start : ℕ) → Gathering s start (replicate 16 nought) 0 1 0 0 start
+pub gather-start : (s : List ℕ) (start : ℕ) → Gathering s start (replicate 16 nought) 0 1 0 Accepted start
 unfolding bandsAt valuesOf marksOf firstFault
 gather-start s start = record {
   bands = [];
@@ -129,7 +133,7 @@ met (found b next) r e h = record {
   fault = ap (λ (x : Field). x .fault) e;
 }
 
-module _ (s : List ℕ) (start : ℕ) (values : List Tenths) (marks weight count fault at : ℕ) (g : Gathering s start values marks weight count fault at)
+module _ (s : List ℕ) (start : ℕ) (values : List Tenths) (marks weight count : ℕ) (fault : Outcome) (at : ℕ) (g : Gathering s start values marks weight count fault at)
     (r : Field) (tab : byteAt s at ≡ 9) (read : r ≡ fieldOf (bandAt s (at + 1))) (some : r .next ≡ 0 → ⊥) where
   here : at < length s
   here = inside s at (omega arith)
@@ -170,7 +174,7 @@ module _ (s : List ℕ) (start : ℕ) (values : List Tenths) (marks weight count
         same = step (n .0) (n .1);
         enough = omega (arith, n .1, g .enough, further);
         count-is = omega (arith, g .count-is, all-length);
-        fault-is = ap (λ (k : ℕ). orElse k (r .fault)) (g .fault-is) ∙ ap (orElse (firstFault (g .bands))) (found-here .fault)
+        fault-is = ap (λ (o : Outcome). orElse o (r .fault)) (g .fault-is) ∙ ap (orElse (firstFault (g .bands))) (found-here .fault)
             ∙ sym (fault-more (g .bands) (found-here .band));
         short = omega (arith, g .short, further);
         whole = l;
@@ -216,7 +220,7 @@ module _ (s : List ℕ) (start : ℕ) (values : List Tenths) (marks weight count
   turn-many h = turned values marks weight (g .whole) (g .low) (g .high) (λ few. absurd (omega (arith, all-length, g .count-is)))
 
 -- the ways out
-module _ (s : List ℕ) (start : ℕ) (values : List Tenths) (marks weight count fault at : ℕ) (g : Gathering s start values marks weight count fault at) where
+module _ (s : List ℕ) (start : ℕ) (values : List Tenths) (marks weight count : ℕ) (fault : Outcome) (at : ℕ) (g : Gathering s start values marks weight count fault at) where
   by-fuel : (x : Bands) → ((m : ℕ) → bandsFrom (suc m) s at (g .bands) ≡ x) → bandsFrom 0 s at (g .bands) ≡ x → bandsAt s start ≡ x
   by-fuel x f z = g .same ∙ go (g .fuel)
     where
@@ -256,16 +260,16 @@ module _ (s : List ℕ) (start : ℕ) (values : List Tenths) (marks weight count
       go (suc m) f = g .same ∙ ap (λ (k : ℕ). bandsFrom k s at (g .bands)) f ∙ bands-end m s at (g .bands) e
 
 -- where the two ways of a turn meet
-module _ (s : List ℕ) (start : ℕ) (values : List Tenths) (marks weight count fault at : ℕ) (g : Gathering s start values marks weight count fault at)
+module _ (s : List ℕ) (start : ℕ) (values : List Tenths) (marks weight count : ℕ) (fault : Outcome) (at : ℕ) (g : Gathering s start values marks weight count fault at)
     (r : Field) (tab : byteAt s at ≡ 9) (read : r ≡ fieldOf (bandAt s (at + 1))) (some : r .next ≡ 0 → ⊥)
-    (values' : List Tenths) (marks' weight' fault' : ℕ) (first : fault' ≡ orElse fault (r .fault)) where
+    (values' : List Tenths) (marks' weight' : ℕ) (fault' : Outcome) (first : fault' ≡ orElse fault (r .fault)) where
   moved : (v : List Tenths) (m w : ℕ) → values' ≡ v → marks' ≡ m → weight' ≡ w
       → Gathering s start v m w (count + 1) (orElse fault (r .fault)) (r .next) → Gathering s start values' marks' weight' (count + 1) fault' (r .next)
   moved v m w a b c k =
       subst (λ (x : List Tenths). Gathering s start x marks' weight' (count + 1) fault' (r .next)) (sym a)
       (subst (λ (x : ℕ). Gathering s start v x weight' (count + 1) fault' (r .next)) (sym b)
       (subst (λ (x : ℕ). Gathering s start v m x (count + 1) fault' (r .next)) (sym c)
-      (subst (λ (x : ℕ). Gathering s start v m w (count + 1) x (r .next)) (sym first) k)))
+      (subst (λ (x : Outcome). Gathering s start v m w (count + 1) x (r .next)) (sym first) k)))
 
   pub again-few : (w : ℕ) → w ≡ weightBy (r .limit) weight → count < 16 → values' ≡ set values count (r .value) → marks' ≡ marks + w → weight' ≡ weight + weight
       → Gathering s start values' marks' weight' (count + 1) fault' (r .next)
@@ -274,6 +278,13 @@ module _ (s : List ℕ) (start : ℕ) (values : List Tenths) (marks weight count
 
   pub again-many : 16 ≤ count → values' ≡ values → marks' ≡ marks → weight' ≡ weight → Gathering s start values' marks' weight' (count + 1) fault' (r .next)
   again-many h a b c = moved values marks weight a b c (turn-many s start values marks weight count fault at g r tab read some h)
+
+-- the refusal of a band is put after the one that stands, if it gives any
+pub or-refused : (o p : Outcome) (r : Refusal) → p ≡ Refused r → orElse o (Refused r) ≡ orElse o p
+or-refused o p r e = ap (orElse o) (sym e)
+
+pub or-accepted : (o p : Outcome) → p ≡ Accepted → o ≡ orElse o p
+or-accepted o p e = sym (ap (orElse o) e ∙ or-none o)
 
 pub weight-at-most : (t : Bool) (w v : ℕ) → v ≡ weightBy t w → v ≤ w
 weight-at-most true w v e = omega arith

@@ -12,6 +12,8 @@ use Rattle.laws.proofs.Ints.{ints, minus, opposite, eq-made, apart}
 use Rattle.quantity.specs.Quantities.{inRange}
 use Rattle.quantity.proofs.Rim.{range-yes}
 use Rattle.quantity.specs.declared.quantities.Tenths.{Tenths}
+use Rattle.quantity.specs.declared.refusals.Refusal.the-variants.{BandRange}
+use Rattle.quantity.specs.declared.refusals.Outcome.the-variants.{Accepted, Refused}
 use Rattle.request.specs.Texts.{Band, between, keyByte}
 use Rattle.request.specs.Texts.Band.{missing, level}
 use Rattle.request.specs.declared.bands.Field.{Field}
@@ -24,7 +26,7 @@ use Rattle.request.specs.declared.heads.Named.{Named}
 use Rattle.request.specs.declared.heads.Named.the-variants as named
 use Rattle.rating.specs.declared.kinds.Kind.the-variants.{A3, A1, I3, I1}
 use Rattle.request.specs.Reading.Found.{found}
-use Rattle.request.specs.Gathering.{Small, Short, fieldOf, orElse}
+use Rattle.request.specs.Gathering.{Small, Short, fieldOf}
 use Rattle.request.proofs.Leaves.{inside, Digit, digit-yes, digit-beside, digit-read, key-range}
 
 module _ (s : List ℕ) (at whole : ℕ) where
@@ -174,16 +176,9 @@ small-read f m next e h = subst Small e h
 
 -- fields
 pub level-is : (limit : Bool) (value : Tenths) (next : ℕ) {t : Bool} → inRange (value .0) ≡ t
-    → record { next = next; value = value; limit = limit; fault = cond t 0 4 } ≡ fieldOf (found (level limit (value .0)) next)
+    → record { next = next; value = value; limit = limit; fault = cond t Accepted (Refused BandRange) } ≡ fieldOf (found (level limit (value .0)) next)
 unfolding fieldOf
-level-is limit value next e = ap (λ (t : Bool). record { next = next; value = value; limit = limit; fault = cond t 0 4 }) (sym e)
-
-pub or-none : (m n : ℕ) → m ≡ 0 → n ≡ orElse m n
-or-none m n e = rw e
-
-pub or-some : (m n : ℕ) → (m ≡ 0 → ⊥) → m ≡ orElse m n
-or-some zero n f = absurd (f refl)
-or-some (suc m) n f = refl
+level-is limit value next e = ap (λ (t : Bool). record { next = next; value = value; limit = limit; fault = cond t Accepted (Refused BandRange) }) (sym e)
 
 from-zero : (m : ℕ) → pos m -ℤ pos 0 ≡ pos m
 from-zero m = eq-made (omega (arith, minus (pos m) (pos 0)))
@@ -255,7 +250,7 @@ module _ (s : List ℕ) (at : ℕ) where
       go false p e = absurd (subst Some (sym e) tt)
 
   pub band-short : (r : Figure) (m next : ℕ) (z : ℤ) → Short (figureAt s at) r → r ≡ Read m next → z ≡ pos m -ℤ pos 0
-      → record { next = next; value = record { 0 = z }; limit = false; fault = 0 } ≡ fieldOf (bandAt s at)
+      → record { next = next; value = record { 0 = z }; limit = false; fault = Accepted } ≡ fieldOf (bandAt s at)
   band-short r m next z h e g =
       let k : (figureAt s at ≡ Read m next) × (m ≤ 999) = subst (Short (figureAt s at)) e h in
       let d : Digit (byteAt s at) = digit-read (byteAt s at) (figure-digit m next (k .0)) in

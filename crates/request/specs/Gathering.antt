@@ -3,11 +3,15 @@
 use mathlib.Core.Bool.{Bool, true, false, cond}
 use mathlib.Core.List.{List, [], _∷_, _++_, map}
 use mathlib.Core.Path.{_≡_}
-use Prim.Native.Nat.{ℕ, zero, suc, _+_, _*_, _-_, _≤_}
+use Prim.Native.Nat.{ℕ, _+_, _*_, _-_, _≤_}
 use lib.IntN.{pos}
 use lib.ListN.{length, replicate}
 use Rattle.quantity.specs.Quantities.{inRange}
+use Rattle.quantity.specs.Refusals.{orElse}
 use Rattle.quantity.specs.declared.quantities.Tenths.{Tenths}
+use Rattle.quantity.specs.declared.refusals.Refusal.the-variants.{NoReading, BandRange}
+use Rattle.quantity.specs.declared.refusals.Outcome.{Outcome}
+use Rattle.quantity.specs.declared.refusals.Outcome.the-variants.{Accepted, Refused}
 use Rattle.request.specs.declared.bands.Field.{Field}
 use Rattle.request.specs.declared.bands.Figure.{Figure}
 use Rattle.request.specs.declared.bands.Figure.the-variants.{Read, Nothing}
@@ -30,18 +34,14 @@ abbrev pub markOf : Band → Bool
 markOf missing = false
 markOf (level limit z) = limit
 
--- the refusal that a band gives, by its number: "bands from the lowest, each 3, 2, 4"; 0 for none
-abbrev pub faultOf : Band → ℕ
-faultOf missing = 3
-faultOf (level limit z) = cond (inRange z) 0 4
-
-abbrev pub orElse : ℕ → ℕ → ℕ
-orElse zero n = n
-orElse (suc m) n = suc m
+-- the refusal that a band gives, if any: "bands from the lowest, each 3, 2, 4"
+abbrev pub faultOf : Band → Outcome
+faultOf missing = Refused NoReading
+faultOf (level limit z) = cond (inRange z) Accepted (Refused BandRange)
 
 -- of all bands, that of the lowest that gives one
-unfoldable pub firstFault : List Band → ℕ
-firstFault [] = 0
+unfoldable pub firstFault : List Band → Outcome
+firstFault [] = Accepted
 firstFault (b ∷ bs) = orElse (faultOf b) (firstFault bs)
 
 -- bit i of the marks for band i
@@ -59,7 +59,7 @@ valuesOf bands = map valueOf bands ++ replicate (16 - length bands) nought
 
 -- What the code carries between its parts. A field as the code reads it:
 unfoldable pub fieldOf : Found → Field
-fieldOf Found.nothing = record { next = 0; value = nought; limit = false; fault = 0 }
+fieldOf Found.nothing = record { next = 0; value = nought; limit = false; fault = Accepted }
 fieldOf (found b next) = record { next = next; value = valueOf b; limit = markOf b; fault = faultOf b }
 
 -- a figure has at most four digits

@@ -2,15 +2,18 @@
 use crate::bytes::byte;
 use crate::bytes::digit;
 use crate::bytes::is_digit;
+use quantity::Outcome;
+use quantity::Refusal;
 use quantity::Tenths;
 use quantity::signed::less;
 ghost use mathlib.Core.Path.{_≡_};
 ghost use Prim.Native.Nat.{_+_, _≤_, _<_};
 ghost use lib.IntN.{pos, negsuc};
 ghost use lib.ListN.{length};
+ghost use Rattle.quantity.specs.Refusals.{orElse};
 ghost use Rattle.request.specs.Texts.{Band};
 ghost use Rattle.request.specs.Reading.{figureAt, firstAt, secondAt, thirdAt, tenthBy, tenthAt, signedBy, levelAt, bandAt, bandsAt, Found};
-ghost use Rattle.request.specs.Gathering.{fieldOf, orElse, weightBy, Small, Short, GatheredAt};
+ghost use Rattle.request.specs.Gathering.{fieldOf, weightBy, Small, Short, GatheredAt};
 
 // Tenths without a sign, and the position after them.
 pub enum Figure {
@@ -18,13 +21,13 @@ pub enum Figure {
     Nothing,
 }
 
-// A band: the position after it (0 where none stands there), its value, whether it is a limit value, and the number of the
-// refusal that it gives (0 for none).
+// A band: the position after it (0 where none stands there), its value, whether it is a limit value, and the refusal that it
+// gives, if any.
 pub struct Field {
     pub next: usize,
     pub value: Tenths,
     pub limit: bool,
-    pub fault: u32,
+    pub fault: Outcome,
 }
 
 // The digit after the point: the figure, up to `next`, if it is one.
@@ -109,7 +112,7 @@ fn no_field() -> Field
         next: 0,
         value: Tenths(0),
         limit: false,
-        fault: 0,
+        fault: Outcome::Accepted,
     }
 }
 
@@ -120,7 +123,7 @@ fn missing_field(next: usize) -> Field
         next,
         value: Tenths(0),
         limit: false,
-        fault: 3,
+        fault: Outcome::Refused(Refusal::NoReading),
     }
 }
 
@@ -132,14 +135,14 @@ fn level_field(value: Tenths, limit: bool, next: usize) -> Field
             next,
             value,
             limit,
-            fault: 0,
+            fault: Outcome::Accepted,
         };
     }
     Field {
         next,
         value,
         limit,
-        fault: 4,
+        fault: Outcome::Refused(Refusal::BandRange),
     }
 }
 
@@ -230,28 +233,31 @@ pub fn band_at(s: &[u8], at: usize) -> Field
                 next,
                 value: Tenths(less(m, 0)),
                 limit: false,
-                fault: 0,
+                fault: Outcome::Accepted,
             };
         }
     }
     any_band_at(s, at)
 }
 
-// The bands of a line: the position after its line feed (0 where they are broken), how many, the number of the first refusal
-// among them (0 for none), and, if they are at most 16, their values and marks.
+// The bands of a line: the position after its line feed (0 where they are broken), how many, the first refusal among them, if
+// any, and, if they are at most 16, their values and marks.
 pub struct Gathered {
     pub next: usize,
     pub count: usize,
-    pub fault: u32,
+    pub fault: Outcome,
     pub marks: u16,
     pub values: [Tenths; 16],
 }
 
 // The first refusal stays.
-fn first_of(fault: u32, other: u32) -> u32
+fn first_of(fault: Outcome, other: Outcome) -> Outcome
     ensures { λ r. ⌜ r ≡ orElse fault other ⌝ }
 {
-    if fault == 0 { other } else { fault }
+    match fault {
+        Outcome::Accepted => other,
+        Outcome::Refused(refusal) => Outcome::Refused(refusal),
+    }
 }
 
 fn weight_of(limit: bool, weight: u32) -> u32
@@ -266,7 +272,7 @@ fn broken() -> Gathered
     Gathered {
         next: 0,
         count: 0,
-        fault: 0,
+        fault: Outcome::Accepted,
         marks: 0,
         values: [Tenths(0); 16],
     }
@@ -280,7 +286,7 @@ pub fn bands_at(s: &[u8], start: usize) -> Gathered
     let mut marks = 0u32;
     let mut weight = 1u32;
     let mut count = 0usize;
-    let mut fault = 0u32;
+    let mut fault = Outcome::Accepted;
     let mut at = start;
     while byte(s, at) == 9 {
         let band = band_at(s, at + 1);
@@ -288,13 +294,17 @@ pub fn bands_at(s: &[u8], start: usize) -> Gathered
         if next == 0 {
             return broken();
         }
+        // on the rare path only: the common turn does not touch the refusal that stands
+        let given = band.fault;
+        if let Outcome::Refused(refusal) = given {
+            fault = first_of(fault, Outcome::Refused(refusal));
+        }
         if count < 16 {
             let value = band.value;
             values[count] = value;
             marks += weight_of(band.limit, weight);
             weight += weight;
         }
-        fault = first_of(fault, band.fault);
         count += 1;
         at = next;
     }

@@ -1,10 +1,10 @@
 -- `reply::requests::judge` meets its contract: the count, the first refusal of a band, or the sheet. Assumes nothing.
 use borrow.Author.Needs.{needs}
-use mathlib.Core.Path.{refl, _∙_}
+use mathlib.Core.Path.{_≡_, refl, _∙_}
 use Rattle.rating.specs.declared.sheets.Rated.the-variants.{Rating}
 use Rattle.rating.specs.Kinds.{bandsOf}
 use Rattle.rating.proofs.Rated.{in-order}
-use Rattle.reply.proofs.Replies.{judge-count, judge-missing, judge-range, judge-sheet}
+use Rattle.reply.proofs.Replies.{judge-count, judge-refused, judge-sheet}
 use Rattle.reply.proofs.requests.judge.Statement.{statement}
 use Rattle.reply.proofs.requests.judge.Tie as tie
 
@@ -16,33 +16,43 @@ returns c =
     let a = c .before .before .args in
     judge-count (a .kind) (a .bands) (c .before .bands-of .result) (c .before .bands-of .ensures) (c .if1 .taken)
 
-returns-2 : tie.Need-returns-2
-returns-2 c =
-    let a = c .before .before .before .args in
-    judge-missing (a .kind) (a .bands) (c .before .before .bands-of .result) (c .before .before .bands-of .ensures) (c .before .if1 .left) (c .if2 .taken)
+enum-known-fault : tie.Need-enum-known-fault
+enum-known-fault c = search needs
 
-returns-3 : tie.Need-returns-3
-returns-3 c =
-    let a = c .before .before .before .before .args in
-    judge-range (a .kind) (a .bands) (c .before .before .before .bands-of .result) (c .before .before .before .bands-of .ensures) (c .before .before .if1 .left)
-    (c .before .if2 .left) (c .if3 .taken)
+enum-told : tie.Need-enum-told
+enum-told c = search needs
+
+counted : (c : tie.After-values) → let b = c .before .before .before .before in
+    b .before .args .bands .count ≡ bandsOf (b .before .args .kind)
+counted c =
+    let e = c .before .before .before in
+    e .if1 .left ∙ e .before .bands-of .ensures
 
 sheet-of-requires : tie.Need-sheet-of-requires
 sheet-of-requires c κs =
-    let e = c .before in
-    let b = e .before .before .before in
-    (b .before .pre .1, b .before .pre .0 (e .if3 .left) (e .before .before .if1 .left ∙ b .bands-of .ensures))
+    let p = c .before .before .before .before .before .pre in
+    (p .1, p .0 (c .before .enum-told .given .1) (counted c))
 
-returns-4 : tie.Need-returns-4
-returns-4 c =
-    let e = c .before .before in
-    let b = e .before .before .before in
-    let a = b .before .args in
-    let n = e .before .before .if1 .left ∙ b .bands-of .ensures in
-    judge-sheet (a .kind) (a .bands) (b .bands-of .result) (Rating (c .sheet-of .result)) (b .bands-of .ensures) (e .before .before .if1 .left) (e .if3 .left)
-    (in-order (a .kind) (record { values = a .bands .values; marks = a .bands .marks; len = a .bands .count }) (bandsOf (a .kind)) (c .sheet-of .result) refl n
-    (b .before .pre .0 (e .if3 .left) n) (c .sheet-of .ensures))
+returns-2 : tie.Need-returns-2
+returns-2 c =
+    let e = c .before .before .before in
+    let b = e .before .bands-of in
+    let a = e .before .before .args in
+    let w = c .before .fault .given in
+    judge-refused (a .kind) (a .bands) (b .result) (w .0 .0) (b .ensures) (e .if1 .left) (w .1)
+
+returns-3 : tie.Need-returns-3
+returns-3 c =
+    let v = c .before in
+    let f = v .before .enum-told .given .1 in
+    let e = v .before .before .before in
+    let b = e .before .bands-of in
+    let s = e .before .before in
+    let a = s .args in
+    judge-sheet (a .kind) (a .bands) (b .result) (Rating (c .sheet-of .result)) (b .ensures) (e .if1 .left) f
+    (in-order (a .kind) (record { values = a .bands .values; marks = a .bands .marks; len = a .bands .count }) (bandsOf (a .kind)) (c .sheet-of .result) refl (counted v)
+    (s .pre .0 f (counted v)) (c .sheet-of .ensures))
 
 pub judge-spec : {M : Type 1} → statement M
 judge-spec =
-    tie.close (tie.spec bands-of-requires returns returns-2 returns-3 sheet-of-requires returns-4)
+    tie.close (tie.spec bands-of-requires returns enum-known-fault enum-told sheet-of-requires returns-2 returns-3)

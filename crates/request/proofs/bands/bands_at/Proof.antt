@@ -1,10 +1,14 @@
-use mathlib.Core.Path.{sym, _∙_}
+-- `request::bands::bands_at` meets its contract. The loop's invariant: the bands read so far, with those that the rest of the
+-- line gives, are the bands of the line. The measure is what is left of the line. Assumes nothing.
+use mathlib.Core.Path.{_≡_, sym, _∙_}
 use mathlib.Core.Logic.{⊎-elim}
-use Prim.Native.Nat.{_-_}
+use borrow.Author.Needs.{needs}
+use Prim.Native.Nat.{_-_, _<_}
 use native.Mathlib.Omega.{arith}
 use lib.ListN.{length}
+use Rattle.quantity.specs.Refusals.{orElse}
 use Rattle.request.proofs.Leaves.{inside-byte}
-use Rattle.request.proofs.Gathers.{Gathering, gather-start, further, again-few, again-many, weight-at-most, out-broken, out-none, out-end}
+use Rattle.request.proofs.Gathers.{Gathering, gather-start, further, or-refused, or-accepted, again-few, again-many, weight-at-most, out-broken, out-none, out-end}
 use Rattle.request.proofs.bands.bands_at.Statement.{statement}
 use Rattle.request.proofs.bands.bands_at.Tie as tie
 
@@ -14,33 +18,36 @@ Inv-loop s start values₀ marks₀ weight₀ count₀ fault₀ at₀ values mar
 abbrev μ-loop : tie.MeasureT-loop
 μ-loop s start values₀ marks₀ weight₀ count₀ fault₀ at₀ values marks weight count fault at = length s - at
 
--- src/bands.rt:230:5
+-- where a tab stands, the line goes on
+here : (c : tie.Then1 Inv-loop μ-loop) → c .before .before .loop .at < length (c .before .before .before .before .args .s .now)
+here c =
+    inside-byte (c .before .before .before .before .args .s .now) (c .before .before .loop .at) (c .before .byte .result) (c .before .byte .ensures) (omega arith)
+
+-- the first refusal after a turn
+first : (c : tie.At-match-came Inv-loop μ-loop) → c .match .fault ≡ orElse (c .before .before .before .before .before .loop .fault) (c .before .before .band-at .result .fault)
+first c =
+    let f = c .before .before .before .before .before .loop .fault in
+    let g = c .before .before .band-at .result .fault in
+    ⊎-elim
+    (λ w. w .4 ∙ w .3 .ensures ∙ or-refused f g (w .1 .given .0 .0) (w .1 .given .1))
+    (λ w. w .2 ∙ or-accepted f g (w .1 .given .1))
+    (c .match .came)
+
 loop-holds : tie.Need-loop-holds Inv-loop μ-loop
 loop-holds c = gather-start (c .before .args .s .now) (c .before .args .start)
 
--- src/bands.rt:230:11
 byte-requires : tie.Need-byte-requires Inv-loop μ-loop
 byte-requires c κs = tt
 
--- src/bands.rt:231:31
 add-band-at : tie.Need-add-band-at Inv-loop μ-loop
-add-band-at c =
-    let a = c .before .before .before .before .args in
-    let l = c .before .before .loop in
-    omega (arith, inside-byte (a .s .now) (l .at) (c .before .byte .result) (c .before .byte .ensures) (omega arith))
+add-band-at c = omega (arith, here c)
 
--- src/bands.rt:231:13
 band-at-requires : tie.Need-band-at-requires Inv-loop μ-loop
-band-at-requires c κs =
-    let a = c .before .before .before .before .args in
-    let l = c .before .before .loop in
-    omega (arith, inside-byte (a .s .now) (l .at) (c .before .byte .result) (c .before .byte .ensures) (omega arith))
+band-at-requires c κs = omega (arith, here c)
 
--- src/bands.rt:234:13
 broken-requires : tie.Need-broken-requires Inv-loop μ-loop
 broken-requires c κs = tt
 
--- src/bands.rt:234:13
 returns : tie.Need-returns Inv-loop μ-loop
 returns c =
     let a = c .before .before .before .before .before .before .before .args in
@@ -48,75 +55,72 @@ returns c =
     out-broken (a .s .now) (a .start) (l .values) (l .marks) (l .weight) (l .count) (l .fault) (l .at) (l .inv) (c .before .before .band-at .result) (c .broken .result)
     (sym (c .before .before .before .before .byte .ensures) ∙ c .before .before .before .if1 .taken) (c .before .before .band-at .ensures) (c .before .if2 .taken) (c .broken .ensures)
 
--- src/bands.rt:238:13
-mul-values : tie.Need-mul-values Inv-loop μ-loop
-mul-values c = omega arith
+enum-known-given : tie.Need-enum-known-given Inv-loop μ-loop
+enum-known-given c = search needs
 
--- src/bands.rt:238:13
-array-set-from-values : tie.Need-array-set-from-values Inv-loop μ-loop
-array-set-from-values c = omega arith
-
--- src/bands.rt:239:22
-weight-of-requires : tie.Need-weight-of-requires Inv-loop μ-loop
-weight-of-requires c κs = tt
-
--- src/bands.rt:239:13
-add-marks : tie.Need-add-marks Inv-loop μ-loop
-add-marks c =
-    let a = c .before .before .before .before .before .before .before .before .before .args in
-    let l = c .before .before .before .before .before .before .before .loop in
-    omega (arith, l .inv .low, l .inv .high, weight-at-most (c .before .before .before .before .band-at .result .limit) (l .weight) (c .weight-of .result) (c .weight-of .ensures))
-
--- src/bands.rt:240:13
-add-weight : tie.Need-add-weight Inv-loop μ-loop
-add-weight c =
-    let a = c .before .before .before .before .before .before .before .before .before .args in
-    let l = c .before .before .before .before .before .before .before .loop in
-    omega (arith, l .inv .high)
-
--- src/bands.rt:242:9
 first-of-requires : tie.Need-first-of-requires Inv-loop μ-loop
 first-of-requires c κs = tt
 
--- src/bands.rt:243:9
+enum-told : tie.Need-enum-told Inv-loop μ-loop
+enum-told c = search needs
+
+mul-values : tie.Need-mul-values Inv-loop μ-loop
+mul-values c = omega arith
+
+array-set-from-values : tie.Need-array-set-from-values Inv-loop μ-loop
+array-set-from-values c = omega arith
+
+weight-of-requires : tie.Need-weight-of-requires Inv-loop μ-loop
+weight-of-requires c κs = tt
+
+add-marks : tie.Need-add-marks Inv-loop μ-loop
+add-marks c =
+    let b = c .before .before .before .before .before in
+    let l = b .before .before .before .loop in
+    omega (arith, l .inv .low, l .inv .high, weight-at-most (b .band-at .result .limit) (l .weight) (c .weight-of .result) (c .weight-of .ensures))
+
+add-weight : tie.Need-add-weight Inv-loop μ-loop
+add-weight c = omega (arith, c .before .before .before .before .before .before .before .before .loop .inv .high)
+
 add-count : tie.Need-add-count Inv-loop μ-loop
 add-count c =
-    let a = c .before .before .before .before .before .before .before .before .args in
-    let l = c .before .before .before .before .before .before .loop in
-    omega (arith, l .inv .short, inside-byte (a .s .now) (l .at) (c .before .before .before .before .before .byte .result) (c .before .before .before .before .before .byte .ensures) (omega arith))
+    let t = c .before .before .before .before in
+    omega (arith, t .before .before .loop .inv .short, here t)
 
--- src/bands.rt:230:5
 loop-less : tie.Need-loop-less Inv-loop μ-loop
 loop-less c =
-    let a = c .before .before .before .before .before .before .before .before .args in
-    let l = c .before .before .before .before .before .before .loop in
-    omega (arith, further (a .s .now) (a .start) (l .values) (l .marks) (l .weight) (l .count) (l .fault) (l .at) (l .inv) (c .before .before .before .band-at .result) (sym (c .before .before .before .before .before .byte .ensures) ∙ c .before .before .before .before .if1 .taken) (c .before .before .before .band-at .ensures) (c .before .before .if2 .left), inside-byte (a .s .now) (l .at) (c .before .before .before .before .before .byte .result) (c .before .before .before .before .before .byte .ensures) (omega arith))
+    let e = c .before .before in
+    let b = e .before .band-at in
+    let t = e .before .before in
+    let l = t .before .before .loop in
+    let a = t .before .before .before .before .args in
+    omega (arith, here t, further (a .s .now) (a .start) (l .values) (l .marks) (l .weight) (l .count) (l .fault) (l .at) (l .inv) (b .result) (sym (t .before .byte .ensures) ∙ t .if1 .taken) (b .ensures) (e .if2 .left))
 
--- src/bands.rt:230:5
 loop-again : tie.Need-loop-again Inv-loop μ-loop
 loop-again c =
-    let a = c .before .before .before .before .before .before .before .before .args in
-    let l = c .before .before .before .before .before .before .loop in
+    let m = c .before in
+    let e = m .before in
+    let b = e .before .band-at in
+    let t = e .before .before in
+    let l = t .before .before .loop in
+    let a = t .before .before .before .before .args in
     ⊎-elim
     (λ w. again-few (a .s .now) (a .start) (l .values) (l .marks) (l .weight) (l .count) (l .fault) (l .at) (l .inv)
-    (c .before .before .before .band-at .result) (sym (c .before .before .before .before .before .byte .ensures) ∙ c .before .before .before .before .if1 .taken) (c .before .before .before .band-at .ensures) (c .before .before .if2 .left)
-    (c .before .if3 .values) (c .before .if3 .marks) (c .before .if3 .weight) (c .first-of .result) (c .first-of .ensures)
+    (b .result) (sym (t .before .byte .ensures) ∙ t .if1 .taken) (b .ensures) (e .if2 .left)
+    (c .if3 .values) (c .if3 .marks) (c .if3 .weight) (m .match .fault) (first m)
     (w .2 .result) (w .2 .ensures) (w .0 .taken) (w .3) (w .4) (w .5))
     (λ w. again-many (a .s .now) (a .start) (l .values) (l .marks) (l .weight) (l .count) (l .fault) (l .at) (l .inv)
-    (c .before .before .before .band-at .result) (sym (c .before .before .before .before .before .byte .ensures) ∙ c .before .before .before .before .if1 .taken) (c .before .before .before .band-at .ensures) (c .before .before .if2 .left)
-    (c .before .if3 .values) (c .before .if3 .marks) (c .before .if3 .weight) (c .first-of .result) (c .first-of .ensures)
+    (b .result) (sym (t .before .byte .ensures) ∙ t .if1 .taken) (b .ensures) (e .if2 .left)
+    (c .if3 .values) (c .if3 .marks) (c .if3 .weight) (m .match .fault) (first m)
     (w .0 .left) (w .1) (w .2) (w .3))
-    (c .before .if3 .came)
+    (c .if3 .came)
 
--- src/bands.rt:246:8
 byte-requires-2 : tie.Need-byte-requires-2 Inv-loop μ-loop
 byte-requires-2 c κs = tt
 
--- src/bands.rt:247:9
 broken-requires-2 : tie.Need-broken-requires-2 Inv-loop μ-loop
 broken-requires-2 c κs = tt
 
--- src/bands.rt:247:9
 returns-2 : tie.Need-returns-2 Inv-loop μ-loop
 returns-2 c =
     let a = c .before .before .before .before .before .before .before .args in
@@ -124,21 +128,17 @@ returns-2 c =
     out-none (a .s .now) (a .start) (l .values) (l .marks) (l .weight) (l .count) (l .fault) (l .at) (l .inv) (c .broken2 .result) (λ e. c .before .before .before .if1 .left (c .before .before .before .before .byte .ensures ∙ e))
     (λ e. c .before .if4 .taken (c .before .before .byte2 .ensures ∙ e)) (c .broken2 .ensures)
 
--- src/bands.rt:250:15
-add-t22 : tie.Need-add-t22 Inv-loop μ-loop
-add-t22 c =
+add-t25 : tie.Need-add-t25 Inv-loop μ-loop
+add-t25 c =
     let a = c .before .before .before .before .before .before .args in
     let l = c .before .before .before .before .loop in
     omega (arith, inside-byte (a .s .now) (l .at) (c .before .byte2 .result) (c .before .byte2 .ensures) (omega arith))
 
--- src/bands.rt:253:16
-cast-t23 : tie.Need-cast-t23 Inv-loop μ-loop
-cast-t23 c =
-    let a = c .before .before .before .before .before .before .args in
+cast-t26 : tie.Need-cast-t26 Inv-loop μ-loop
+cast-t26 c =
     let l = c .before .before .before .before .loop in
     omega (arith, l .inv .low, l .inv .high)
 
--- src/bands.rt:221:1
 returns-3 : tie.Need-returns-3 Inv-loop μ-loop
 returns-3 c =
     let a = c .before .before .before .before .before .before .args in
@@ -157,18 +157,20 @@ bands-at-spec =
     band-at-requires
     broken-requires
     returns
+    enum-known-given
+    first-of-requires
+    enum-told
     mul-values
     array-set-from-values
     weight-of-requires
     add-marks
     add-weight
-    first-of-requires
     add-count
     loop-less
     loop-again
     byte-requires-2
     broken-requires-2
     returns-2
-    add-t22
-    cast-t23
+    add-t25
+    cast-t26
     returns-3)

@@ -1,4 +1,4 @@
--- `line::bands::level_field` meets its contract: the fault is 4 out of range. Assumes nothing.
+-- `request::bands::level_field` meets its contract: out of range it gives the refusal. Assumes nothing.
 use borrow.Author.Needs.{needs}
 use mathlib.Core.Path.{sym, _∙_}
 use Rattle.request.proofs.Readers.{level-is}
