@@ -1,2 +1,3 @@
 -- Laws of the open library.
 pub mod Joined
+pub mod Answers

@@ -10,4 +10,5 @@ pub mod Covers
 pub mod Lift
 pub mod Lines
 pub mod Refusals
+pub mod Answers
 pub mod Calls

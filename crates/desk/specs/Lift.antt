@@ -8,5 +8,5 @@ pub use Rattle.lift.specs.Reach.{betterBy, meetsBy, Listed}
 unfoldable pub use Rattle.lift.specs.Reach.{lifted, reaches, listedMask, liftList}
 -- the call: its answer, and the lent buffer afterwards
 pub use Rattle.lift.specs.declared.lists.Lifted.{Lifted}
-pub use Rattle.lift.specs.Calls.{placesOf, bufferBy, LiftIs}
+pub use Rattle.lift.specs.Calls.{placesOf, bufferBy}
 unfoldable pub use Rattle.lift.specs.Calls.{inTargets, countOf, answerOf, front}

@@ -3,12 +3,13 @@ use line::Progress;
 use line::Wrote;
 ghost use mathlib.Core.Path.{_≡_};
 ghost use lib.ListN.{length};
+ghost use Rattle.desk.specs.Answers.{wroteAnswer};
 ghost use Rattle.desk.specs.Lines.{answerOf, placed, wroteOf, blockOf, Answered};
 
 // The answer to one line, with its line feed, from an offset of the output: refused only with 10, the output then untouched.
 // Bytes before the offset and after the answer keep their contents.
 pub fn answer_line(line: &[u8], out: &mut [u8], at: usize) -> Wrote
-    ensures { λ r. ⌜ r ≡ wroteOf (now (out .entry)) at (answerOf (now (line .entry))) ⌝ }
+    ensures { λ r. ⌜ wroteAnswer r ≡ wroteAnswer (wroteOf (now (out .entry)) at (answerOf (now (line .entry)))) ⌝ }
     ensures { λ _. ⌜ now (out .exit) ≡ placed (now (out .entry)) at (answerOf (now (line .entry))) ⌝ }
 {
     line::answer_line(line, out, at)

@@ -23,17 +23,18 @@ use Rattle.rating.specs.Sheets.{ratedOf}
 use Rattle.lift.specs.declared.lists.Lifted.{Lifted}
 use Rattle.lift.specs.declared.lists.Lifted.the-variants.{Count, Refused}
 use Rattle.lift.specs.Reach.{betterBy, liftList}
-use Rattle.lift.specs.Calls.{inTargets, placesOf, tested, countOf, answerBy, answerOf, bufferBy}
+use Rattle.lift.specs.Calls.{inTargets, placesOf, tested, countOf, answerBy, answerOf, bufferBy, countAnswer}
 use Rattle.lift.proofs.Listing.{list-room}
 use Rattle.door.specs.declared.kinds.Named.{Named}
 use Rattle.door.specs.declared.kinds.Named.the-variants.{Is, Unknown}
-use Rattle.door.specs.Answers.{Answer, returned, held}
-use Rattle.door.specs.Answers.Answer.{numbers}
+use Rattle.quantity.specs.Answers.{Answer}
+use Rattle.door.specs.Answers.{returned, held}
+use Rattle.quantity.specs.Answers.Answer.{numbers}
 use Rattle.door.specs.Kinds.{kindOf}
 use Rattle.door.specs.Lists.{setFrom}
 use Rattle.door.proofs.Fronts.{stored}
 use Rattle.desk_c.specs.Ratings.{byKind}
-use Rattle.desk_c.specs.Lifts.{countAnswer, listBy, liftAnswer, keptOr, liftHeld}
+use Rattle.desk_c.specs.Lifts.{listBy, liftAnswer, keptOr, liftHeld}
 
 -- what the call leaves: its result, its list and its count
 abbrev pub LiftLeft : Kind → BandSet → ℤ → List ℕ → List ℤ → ℕ → List ℕ → List ℤ → Type 0

@@ -14,12 +14,13 @@ use Rattle.line.specs.declared.lines.Wrote.{Wrote}
 use Rattle.line.specs.declared.lines.Wrote.the-variants.{Bytes, Refused}
 use Rattle.line.specs.declared.blocks.Progress.{Progress}
 use Rattle.reply.specs.Answers.{answerOf}
-use Rattle.line.specs.Answers.{fitsAt, placed, wroteOf}
+use Rattle.line.specs.Answers.{fitsAt, placed, wroteOf, wroteAnswer}
 use Rattle.line.specs.Blocks.{Block, blockOf, Answered}
-use Rattle.door.specs.Answers.{Answer, returned, held}
-use Rattle.door.specs.Answers.Answer.{refused, numbers}
+use Rattle.quantity.specs.Answers.{Answer}
+use Rattle.door.specs.Answers.{returned, held}
+use Rattle.quantity.specs.Answers.Answer.{refused, numbers}
 use Rattle.door.proofs.Fronts.{written-none, written-more, written-all, stored}
-use Rattle.desk_c.specs.Lines.{wroteAnswer, lineAnswer, lineHeld, isSet, bitOf, blockNumbers, blockBy, blockAnswer, blockHeld}
+use Rattle.desk_c.specs.Lines.{lineAnswer, lineHeld, isSet, bitOf, blockNumbers, blockBy, blockAnswer, blockHeld}
 
 pub is-set : (n : ℕ) → (n ≡ 0 → ⊥) → true ≡ isSet n
 is-set zero h = absurd (h refl)

@@ -4,8 +4,8 @@ use lib.IntN.{ℤ}
 use Rattle.rating.specs.declared.kinds.Kind.{Kind}
 use Rattle.door.specs.declared.kinds.Named.{Named}
 use Rattle.door.specs.declared.kinds.Named.the-variants.{Is, Unknown}
-use Rattle.door.specs.Answers.{Answer}
-use Rattle.door.specs.Answers.Answer.{refused}
+use Rattle.quantity.specs.Answers.{Answer}
+use Rattle.quantity.specs.Answers.Answer.{refused}
 use Rattle.desk_c.specs.Ratings.{byKind}
 
 pub by-none : (named : Named) (answer : Kind → Answer ℤ) → named ≡ Unknown → refused 1 ≡ byKind named answer

@@ -15,16 +15,11 @@ use Rattle.lift.specs.Reach.{liftList}
 use Rattle.lift.specs.Calls.{answerOf, bufferBy}
 use Rattle.door.specs.declared.kinds.Named.{Named}
 use Rattle.door.specs.declared.kinds.Named.the-variants.{Is, Unknown}
-use Rattle.door.specs.Answers.{Answer}
-use Rattle.door.specs.Answers.Answer.{refused, numbers}
+use Rattle.quantity.specs.Answers.{Answer}
+use Rattle.quantity.specs.Answers.Answer.{refused, numbers}
 use Rattle.door.specs.Kinds.{kindOf}
 use Rattle.door.specs.Lists.{setFrom}
 use Rattle.desk_c.specs.Ratings.{byKind}
-
--- the count
-abbrev pub countAnswer : Lifted → Answer ℤ
-countAnswer (Count n) = numbers (pos n ∷ [])
-countAnswer (Refused r) = refused (numberOf r)
 
 -- imbrolt_lift, with so many places lent for the list
 unfoldable pub liftAnswer : ℕ → List ℤ → ℕ → ℤ → ℕ → Answer ℤ

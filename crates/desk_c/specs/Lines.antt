@@ -10,14 +10,11 @@ use Rattle.line.specs.declared.lines.Wrote.the-variants.{Bytes, Refused}
 use Rattle.reply.specs.Answers.{answerOf}
 use Rattle.line.specs.Answers.{placed, wroteOf}
 use Rattle.line.specs.Blocks.{Block, blockOf}
-use Rattle.door.specs.Answers.{Answer, front}
-use Rattle.door.specs.Answers.Answer.{refused, numbers}
+use Rattle.quantity.specs.Answers.{Answer}
+use Rattle.door.specs.Answers.{front}
+use Rattle.quantity.specs.Answers.Answer.{refused, numbers}
 
 -- imbrolt_line: the length of the answer line
-abbrev pub wroteAnswer : Wrote → Answer ℕ
-wroteAnswer (Bytes n) = numbers (n ∷ [])
-wroteAnswer (Refused r) = refused (numberOf r)
-
 unfoldable pub lineAnswer : List ℕ → List ℕ → ℕ → Answer ℕ
 lineAnswer line out at = wroteAnswer (wroteOf out at (answerOf line))
 

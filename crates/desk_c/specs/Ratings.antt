@@ -4,16 +4,15 @@ use Prim.Native.Nat.{ℕ}
 use lib.IntN.{ℤ}
 use lib.Ieee.{Float}
 use lib.ListN.{length}
-use Rattle.intake.specs.Taken.{takenOf}
+use Rattle.intake.specs.Taken.{takenOf, takenAnswer}
 use Rattle.rating.specs.declared.kinds.Kind.{Kind}
-use Rattle.rating.specs.Sheets.{ratedOf}
+use Rattle.rating.specs.Sheets.{ratedOf, ratedAnswer}
 use Rattle.door.specs.declared.kinds.Named.{Named}
 use Rattle.door.specs.declared.kinds.Named.the-variants.{Is, Unknown}
-use Rattle.door.specs.Answers.{Answer}
-use Rattle.door.specs.Answers.Answer.{refused}
+use Rattle.quantity.specs.Answers.{Answer}
+use Rattle.quantity.specs.Answers.Answer.{refused}
 use Rattle.door.specs.Kinds.{kindOf}
 use Rattle.door.specs.Lists.{setFrom, readingFrom, readingsFrom}
-use Rattle.door.specs.Given.{takenAnswer, ratedAnswer}
 use Rattle.desk.specs.Calls.{readingsRated}
 
 -- an unknown kind number owns no band count and is refused with 1

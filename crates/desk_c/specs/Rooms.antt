@@ -8,12 +8,14 @@ use Rattle.rooms.specs.declared.raw.RawBand.{RawBand}
 use Rattle.rooms.specs.Background.{fieldOf, laboratoryOf}
 use Rattle.rooms.specs.Raw.{rawOf}
 use Rattle.means.specs.Sets.{octavesOf, specimensOf}
-use Rattle.products.specs.Covers.{coverOf}
-use Rattle.products.specs.Grades.{gradesOf}
-use Rattle.door.specs.Answers.{Answer}
+use Rattle.products.specs.Covers.{coverOf, improvementAnswer}
+use Rattle.products.specs.Grades.{gradesOf, gradedAnswer}
+use Rattle.quantity.specs.Answers.{Answer}
 use Rattle.door.specs.Kinds.{sideOf}
 use Rattle.door.specs.Lists.{setFrom, readingsFrom}
-use Rattle.door.specs.Given.{takenAnswer, levelAnswer, intakeAnswer, coverNumbers, gradedAnswer}
+use Rattle.intake.specs.Taken.{takenAnswer}
+use Rattle.measurement.specs.Lists.{intakeAnswer}
+use Rattle.door.specs.Given.{levelAnswer}
 
 -- imbrolt_field
 unfoldable pub fieldAnswer : ℤ → ℤ → Answer ℤ
@@ -37,7 +39,7 @@ specimensAnswer marks values = intakeAnswer (specimensOf (readingsFrom marks val
 
 -- imbrolt_cover
 unfoldable pub coverAnswer : List ℤ → ℕ → Answer ℤ
-coverAnswer values marks = coverNumbers (coverOf (setFrom values marks))
+coverAnswer values marks = improvementAnswer (coverOf (setFrom values marks))
 
 -- imbrolt_grade
 unfoldable pub gradeAnswer : ℕ → List ℕ → List Float → Answer ℤ

@@ -8,9 +8,9 @@ use quantity::Decibels;
 use rating::Kind;
 ghost use mathlib.Core.Path.{_≡_};
 ghost use lib.ListN.{length};
-ghost use Rattle.lift.specs.Calls.{answerOf};
+ghost use Rattle.lift.specs.Calls.{answerOf, countAnswer};
 ghost use Rattle.door.specs.Answers.{returned, held};
-ghost use Rattle.desk_c.specs.Lifts.{countAnswer, listBy, liftAnswer, liftHeld};
+ghost use Rattle.desk_c.specs.Lifts.{listBy, liftAnswer, liftHeld};
 
 // The number that the call gives where there is no room for the count: that of any other refusal, else 10. A list of its own
 // stands in for the caller's, which is not touched.

@@ -9,7 +9,7 @@ use borrow.Author.Tests.{le-leb, lt-leb}
 use lib.ListN.{length, getD, take, drop, set, length-append, length-drop}
 use lib.Seq.{drop-cons, set-at, take-suc, length-take-le}
 use Rattle.door.specs.Answers.{front, returned, held}
-use Rattle.door.specs.Answers.Answer.{numbers}
+use Rattle.quantity.specs.Answers.Answer.{numbers}
 
 module _ {A : Type 0} (d : A) where
   -- a store at the first place after a list

@@ -18,9 +18,14 @@ use Rattle.products.specs.declared.covers.Cover.the-variants as cover
 use Rattle.products.specs.declared.grades.Grade.{Grade}
 use Rattle.products.specs.declared.grades.Graded.{Graded}
 use Rattle.products.specs.declared.grades.Graded.the-variants as graded
-use Rattle.door.specs.Answers.{Answer, returned, held, flag}
-use Rattle.door.specs.Answers.Answer.{refused, numbers}
-use Rattle.door.specs.Given.{takenAnswer, termValue, termFlag, ratedAnswer, levelAnswer, coverNumbers, gradedAnswer, Fitting, GradeFits}
+use Rattle.quantity.specs.Answers.{Answer, flag}
+use Rattle.door.specs.Answers.{returned, held}
+use Rattle.quantity.specs.Answers.Answer.{refused, numbers}
+use Rattle.intake.specs.Taken.{takenAnswer}
+use Rattle.rating.specs.Sheets.{termOf, termFlag, ratedAnswer}
+use Rattle.products.specs.Covers.{improvementAnswer}
+use Rattle.products.specs.Grades.{gradedAnswer}
+use Rattle.door.specs.Given.{levelAnswer, Fitting, GradeFits}
 
 -- what a call leaves: its result and its lent array, for an answer
 abbrev pub Left : {A : Type 0} → Answer A → ℕ → List A → List A → Type 0
@@ -43,7 +48,7 @@ pub level-given : (t : Taken) (v : Tenths) (limit : Bool) (x : ℤ) → t ≡ ta
 level-given t v limit x e p = ap (λ (z : ℤ). numbers (z ∷ [])) p ∙ ap levelAnswer (sym e)
 
 -- a sheet
-pub sheet-given : (t : Rated) (s : Sheet) (a b c d e f : ℤ) → t ≡ rated.Rating s → a ≡ s .rating .0 → b ≡ s .first .0 → c ≡ termValue (s .second)
+pub sheet-given : (t : Rated) (s : Sheet) (a b c d e f : ℤ) → t ≡ rated.Rating s → a ≡ s .rating .0 → b ≡ s .first .0 → c ≡ termOf (s .second)
     → d ≡ termFlag (s .second) → e ≡ pos (s .shifts) → f ≡ flag (s .limit)
     → numbers (a ∷ b ∷ c ∷ d ∷ e ∷ f ∷ []) ≡ ratedAnswer t
 sheet-given t s a b c d e f h i j k l m n =
@@ -54,8 +59,8 @@ fitting t s e h = subst Fitting e h
 
 -- a cover's improvement
 pub cover-given : (t : Cover) (rating term : Decibels) (limit : Bool) (a b c : ℤ) → t ≡ cover.Improvement rating term limit → a ≡ rating .0 → b ≡ term .0
-    → c ≡ flag limit → numbers (a ∷ b ∷ c ∷ []) ≡ coverNumbers t
-cover-given t rating term limit a b c e h i j = ap numbers (cc) ∙ ap coverNumbers (sym e)
+    → c ≡ flag limit → numbers (a ∷ b ∷ c ∷ []) ≡ improvementAnswer t
+cover-given t rating term limit a b c e h i j = ap numbers (cc) ∙ ap improvementAnswer (sym e)
 
 -- a grade
 pub grade-given : (t : Graded) (g : Grade) (a b c d e f : ℤ) → t ≡ graded.Given g → a ≡ g .rating .0 → b ≡ g .c .0 → c ≡ g .ctr .0

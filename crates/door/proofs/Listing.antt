@@ -12,7 +12,8 @@ use lib.Ieee.{Float, nan}
 use lib.ListN.{length, getD, take, set, length-set}
 use lib.Seq.{getD-set-same, getD-set-other, getD-take, take-suc-set, length-take-le, ext-getD}
 use Rattle.quantity.specs.declared.quantities.Reading.the-variants.{Missing}
-use Rattle.door.specs.Lists.{listed, readingFrom, readingAt}
+use Rattle.measurement.specs.Lists.{listed}
+use Rattle.door.specs.Lists.{readingFrom, readingAt}
 
 module _ {A : Type 0} (d : A) (f : ℕ → A) where
   length-listed : (k i : ℕ) → length (listed f k i) ≡ k

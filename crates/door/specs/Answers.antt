@@ -1,14 +1,11 @@
--- An answer for the C door: a refusal's number, or numbers for a lent array. What the call then returns, and what the array holds.
-use mathlib.Core.Bool.{Bool, true, false, cond}
+-- An answer at the C door: what the call returns, and what the lent array then holds.
+use mathlib.Core.Bool.{cond}
 use mathlib.Core.List.{List, _++_}
 use Prim.Native.Nat.{ℕ}
 use lib.Dec.{leb}
-use lib.IntN.{ℤ, pos}
 use lib.ListN.{length, drop}
-
-pub data Answer (A : Type 0) : Type 0 where
-  refused : ℕ → Answer A
-  numbers : List A → Answer A
+use Rattle.quantity.specs.Answers.{Answer}
+use Rattle.quantity.specs.Answers.Answer.{refused, numbers}
 
 -- a list at the front of an array; places past the answer keep their contents
 abbrev pub front : {A : Type 0} → List A → List A → List A
@@ -23,8 +20,3 @@ returned (numbers xs) places = cond (leb (length xs) places) 0 10
 abbrev pub held : {A : Type 0} → Answer A → List A → List A
 held (refused n) out = out
 held (numbers xs) out = cond (leb (length xs) (length out)) (front xs out) out
-
--- a flag as a number
-abbrev pub flag : Bool → ℤ
-flag true = pos 1
-flag false = pos 0

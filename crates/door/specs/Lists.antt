@@ -1,6 +1,6 @@
 -- Sets and readings out of lent arrays.
 use mathlib.Core.Bool.{cond}
-use mathlib.Core.List.{List, [], _∷_}
+use mathlib.Core.List.{List}
 use Prim.Native.Nat.{ℕ, zero, suc, _%_}
 use lib.Dec.{ltb}
 use lib.IntN.{ℤ, pos}
@@ -10,11 +10,7 @@ use Rattle.quantity.specs.declared.quantities.Tenths.{Tenths}
 use Rattle.quantity.specs.declared.quantities.BandSet.{BandSet}
 use Rattle.quantity.specs.declared.quantities.Reading.{Reading}
 use Rattle.quantity.specs.declared.quantities.Reading.the-variants.{Level, Limit, Missing}
-
--- f i, f (i + 1), .., k of them
-unfoldable pub listed : {A : Type 0} → (ℕ → A) → ℕ → ℕ → List A
-listed f zero i = []
-listed f (suc k) i = f i ∷ listed f k (suc i)
+use Rattle.measurement.specs.Lists.{listed}
 
 -- value i of an array of tenths; 0 past its end (what lies past the stated length never matters to an answer)
 abbrev pub tenthsAt : List ℤ → ℕ → Tenths

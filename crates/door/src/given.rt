@@ -11,8 +11,14 @@ ghost use mathlib.Core.Path.{_≡_};
 ghost use Prim.Native.Nat.{_+_, _≤_};
 ghost use lib.IntN.{pos};
 ghost use lib.ListN.{length, take};
-ghost use Rattle.door.specs.Answers.{Answer, returned, held, flag};
-ghost use Rattle.door.specs.Given.{takenAnswer, termValue, termFlag, ratedAnswer, levelAnswer, setNumbers, intakeAnswer, coverNumbers, gradedAnswer, Fitting, GradeFits};
+ghost use Rattle.quantity.specs.Answers.{Answer, flag};
+ghost use Rattle.door.specs.Answers.{returned, held};
+ghost use Rattle.intake.specs.Taken.{takenAnswer};
+ghost use Rattle.rating.specs.Sheets.{termOf, termFlag, ratedAnswer};
+ghost use Rattle.measurement.specs.Lists.{setNumbers, intakeAnswer};
+ghost use Rattle.products.specs.Covers.{improvementAnswer};
+ghost use Rattle.products.specs.Grades.{gradedAnswer};
+ghost use Rattle.door.specs.Given.{levelAnswer, Fitting, GradeFits};
 
 // The first n of an answer's numbers, from the start of the lent array; 10 where they do not fit.
 pub fn give(out: &mut [i32], answer: [i32; 17], n: usize) -> u32
@@ -57,7 +63,7 @@ pub fn give_taken(out: &mut [i32], taken: Taken) -> u32
 }
 
 fn term_value(term: Term) -> i32
-    ensures { λ r. ⌜ r ≡ termValue term ⌝ }
+    ensures { λ r. ⌜ r ≡ termOf term ⌝ }
 {
     match term {
         Term::Given(value) => value.0,
@@ -162,8 +168,8 @@ pub fn give_set(out: &mut [i32], intake: Intake, n: usize) -> u32
 
 // A cover's improvement, its term and its mark, or the refusal's number.
 pub fn give_cover(out: &mut [i32], cover: Cover) -> u32
-    ensures { λ r. ⌜ r ≡ returned (coverNumbers cover) (length (now (out .entry))) ⌝ }
-    ensures { λ _. ⌜ now (out .exit) ≡ held (coverNumbers cover) (now (out .entry)) ⌝ }
+    ensures { λ r. ⌜ r ≡ returned (improvementAnswer cover) (length (now (out .entry))) ⌝ }
+    ensures { λ _. ⌜ now (out .exit) ≡ held (improvementAnswer cover) (now (out .entry)) ⌝ }
 {
     match cover {
         Cover::Improvement(improvement, spectrum, limit) => {

@@ -1,9 +1,13 @@
 -- Document 01, "Quantities and ranges": what becomes of one reading.
 -- Its order of refusals is 3, 2, 4.
 use mathlib.Core.Bool.{Bool, true, false, cond}
+use mathlib.Core.List.{[], _∷_}
 use lib.IntN.{ℤ}
 use lib.Ieee.{Float, nan, inf, fin}
 use Rattle.quantity.specs.Quantities.{inRange}
+use Rattle.quantity.specs.Refusals.{numberOf}
+use Rattle.quantity.specs.Answers.{Answer, flag}
+use Rattle.quantity.specs.Answers.Answer.{refused, numbers}
 use Rattle.quantity.specs.declared.quantities.Reading.{Reading}
 use Rattle.quantity.specs.declared.quantities.Reading.the-variants.{Level, Limit, Missing}
 use Rattle.quantity.specs.declared.refusals.Refusal.the-variants.{NotFinite, NoReading, BandRange}
@@ -27,3 +31,8 @@ unfolding floatTaken
 takenOf (Level x) = floatTaken false x
 takenOf (Limit x) = floatTaken true x
 takenOf Missing = Refused NoReading
+
+-- in the paper's numbers: the value in tenths and its mark, or the refusal
+abbrev pub takenAnswer : Taken → Answer ℤ
+takenAnswer (Value t limit) = numbers (t .0 ∷ flag limit ∷ [])
+takenAnswer (Refused r) = refused (numberOf r)

@@ -1,7 +1,7 @@
 -- The lift call: its answer, and the lent buffer afterwards. Document 01, "The lift list" and "Refusal numbers" (first those of
 -- the rating, "then 9, 8, 10").
 use mathlib.Core.Bool.{Bool, true, false, _&&_}
-use mathlib.Core.List.{List, _++_}
+use mathlib.Core.List.{List, [], _∷_, _++_}
 use mathlib.Core.Path.{_≡_}
 use Prim.Native.Nat.{ℕ}
 use lib.Dec.{leb}
@@ -9,6 +9,9 @@ use lib.IntN.{ℤ, pos, negsuc}
 use lib.Signed.{leZ}
 use lib.ListN.{length, drop}
 use Rattle.quantity.specs.Quantities.{bandOf}
+use Rattle.quantity.specs.Refusals.{numberOf}
+use Rattle.quantity.specs.Answers.{Answer}
+use Rattle.quantity.specs.Answers.Answer.{refused, numbers}
 use Rattle.quantity.specs.declared.quantities.BandSet.{BandSet}
 use Rattle.quantity.specs.declared.refusals.Refusal.the-variants.{NotBetter, TargetRange, NoRoom}
 use Rattle.rating.specs.declared.kinds.Kind.{Kind}
@@ -72,3 +75,8 @@ pub record RatedIs (k : Kind) (s : BandSet) (target rating : ℤ) (before : List
 pub record LiftIs (k : Kind) (s : BandSet) (target : ℤ) (before : List ℕ) (r : Lifted) (after : List ℕ) : Type 0 where
   pub answer : r ≡ answerOf k s target (length before)
   pub buffer : after ≡ bufferBy r (liftList k (bandOf s) target) before
+
+-- in the paper's numbers: the count, or the refusal
+abbrev pub countAnswer : Lifted → Answer ℤ
+countAnswer (Count n) = numbers (pos n ∷ [])
+countAnswer (Refused r) = refused (numberOf r)

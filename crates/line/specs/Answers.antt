@@ -4,6 +4,9 @@ use mathlib.Core.List.{List, [], _∷_, _++_}
 use Prim.Native.Nat.{ℕ, _+_}
 use lib.Dec.{leb, eqb}
 use lib.ListN.{length, take, drop}
+use Rattle.quantity.specs.Refusals.{numberOf}
+use Rattle.quantity.specs.Answers.{Answer}
+use Rattle.quantity.specs.Answers.Answer.{refused, numbers}
 use Rattle.quantity.specs.declared.refusals.Refusal.the-variants.{NoRoom}
 use Rattle.reply.specs.Answers.{answerOf}
 use Rattle.line.specs.declared.lines.Wrote.{Wrote}
@@ -36,3 +39,8 @@ placed out at text = cond (fitsAt out at text) (take at out ++ (text ++ drop (at
 
 unfoldable pub wroteOf : List ℕ → ℕ → List ℕ → Wrote
 wroteOf out at text = cond (fitsAt out at text) (wrote.Bytes (length text)) (wrote.Refused NoRoom)
+
+-- in the paper's numbers: the length of the answer line, or the refusal
+abbrev pub wroteAnswer : Wrote → Answer ℕ
+wroteAnswer (wrote.Bytes n) = numbers (n ∷ [])
+wroteAnswer (wrote.Refused r) = refused (numberOf r)

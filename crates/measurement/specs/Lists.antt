@@ -1,9 +1,9 @@
 -- Document 01, "Refusal numbers": "bands from the lowest, each 3, 2, 4"; and the set that a list of readings becomes.
 use mathlib.Core.Bool.{Bool, true, false, cond}
-use mathlib.Core.List.{List, [], _∷_}
+use mathlib.Core.List.{List, [], _∷_, _++_}
 use Prim.Native.Nat.{ℕ, zero, suc, _+_, _^_}
 use lib.Dec.{ltb, eqb}
-use lib.IntN.{pos}
+use lib.IntN.{ℤ, pos}
 use lib.Ieee.{nan}
 use lib.ListN.{getD, take, replicate}
 use Rattle.quantity.specs.declared.quantities.Tenths.{Tenths}
@@ -12,7 +12,10 @@ use Rattle.quantity.specs.declared.quantities.Reading.{Reading}
 use Rattle.quantity.specs.declared.quantities.Reading.the-variants.{Level}
 use Rattle.quantity.specs.declared.refusals.Refusal.{Refusal}
 use Rattle.quantity.specs.declared.refusals.Refusal.the-variants.{BandCount}
-use Rattle.quantity.specs.Refusals.{orElse}
+use Rattle.quantity.specs.Quantities.{bandOf}
+use Rattle.quantity.specs.Refusals.{numberOf, orElse}
+use Rattle.quantity.specs.Answers.{Answer}
+use Rattle.quantity.specs.Answers.Answer.{refused, numbers}
 use Rattle.intake.specs.declared.singles.Taken.{Taken}
 use Rattle.intake.specs.declared.singles.Taken.the-variants as one
 use Rattle.quantity.specs.declared.refusals.Outcome.{Outcome}
@@ -58,7 +61,7 @@ marksIn readings zero = 0
 marksIn readings (suc n) = marksIn readings n + weightOf (limitOf (takenAt readings n)) n
 
 -- f i, f (i + 1), .., k of them
-unfoldable pub listed : (ℕ → Tenths) → ℕ → ℕ → List Tenths
+unfoldable pub listed : {A : Type 0} → (ℕ → A) → ℕ → ℕ → List A
 listed f zero i = []
 listed f (suc k) i = f i ∷ listed f k (suc i)
 
@@ -100,3 +103,14 @@ listOf readings len bands = cond (eqb len bands) (listBy (refusalIn readings ban
 -- the lowest sixteen values
 abbrev pub headOf : List Tenths → List Tenths
 headOf values = take 16 values
+
+-- in the paper's numbers: the first n values of the set, then its marks; or the refusal
+unfoldable pub setNumbers : BandSet → ℕ → List ℤ
+setNumbers s n = listed (bandOf s) n 0 ++ (pos (s .marks) ∷ [])
+
+abbrev pub setAnswer : BandSet → ℕ → Outcome → Answer ℤ
+setAnswer s n Accepted = numbers (setNumbers s n)
+setAnswer s n (Refused r) = refused (numberOf r)
+
+abbrev pub intakeAnswer : Intake → ℕ → Answer ℤ
+intakeAnswer i n = setAnswer (i .set) n (i .outcome)

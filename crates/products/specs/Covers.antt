@@ -6,6 +6,9 @@ use lib.Dec.{eqb}
 use lib.IntN.{ℤ, pos, negℤ, _+ℤ_, _-ℤ_}
 use lib.ListN.{getD}
 use Rattle.quantity.specs.Quantities.{bandOf}
+use Rattle.quantity.specs.Refusals.{numberOf}
+use Rattle.quantity.specs.Answers.{Answer, flag}
+use Rattle.quantity.specs.Answers.Answer.{refused, numbers}
 use Rattle.quantity.specs.declared.quantities.BandSet.{BandSet}
 use Rattle.quantity.specs.declared.refusals.Refusal.the-variants.{BandCount, BandRange, DerivedRange}
 use Rattle.measurement.specs.Lists.{listed}
@@ -48,3 +51,8 @@ coverBy s (rated.Refused r) = Refused DerivedRange
 unfoldable pub coverOf : BandSet → Cover
 coverOf s =
     cond (eqb (s .len) (bandsOf I3)) (cond (accepted s (bandsOf I3)) (coverBy s (ratedOf I3 (derivedSet s))) (Refused BandRange)) (Refused BandCount)
+
+-- in the paper's numbers: improvement rating, term, mark; or the refusal
+abbrev pub improvementAnswer : Cover → Answer ℤ
+improvementAnswer (Improvement rating term limit) = numbers (rating .0 ∷ term .0 ∷ flag limit ∷ [])
+improvementAnswer (Refused r) = refused (numberOf r)

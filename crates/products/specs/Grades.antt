@@ -1,9 +1,12 @@
 -- Document 01, "Covers and grades": the grade of a door or window from three specimens (004, table 1).
 use mathlib.Core.Bool.{cond}
-use mathlib.Core.List.{List}
+use mathlib.Core.List.{List, [], _∷_}
 use Prim.Native.Nat.{ℕ}
 use lib.IntN.{ℤ, pos, _+ℤ_}
 use lib.Signed.{ltZ}
+use Rattle.quantity.specs.Refusals.{numberOf}
+use Rattle.quantity.specs.Answers.{Answer, flag}
+use Rattle.quantity.specs.Answers.Answer.{refused, numbers}
 use Rattle.quantity.specs.declared.quantities.BandSet.{BandSet}
 use Rattle.quantity.specs.declared.quantities.Reading.{Reading}
 use Rattle.quantity.specs.declared.refusals.Outcome.{Outcome}
@@ -52,3 +55,11 @@ graded side s (outcome.Refused r) = Refused r
 -- "from the band means of three A3 sets given as 48 readings"
 unfoldable pub gradesOf : List Reading → ℕ → Side → Graded
 gradesOf readings len side = graded side (specimensOf readings len .set) (specimensOf readings len .outcome)
+
+-- in the paper's numbers: rating, C, Ctr, deciding number, grade, mark; or the refusal
+abbrev pub gradeNumbers : Grade → List ℤ
+gradeNumbers g = g .rating .0 ∷ g .c .0 ∷ g .ctr .0 ∷ g .deciding .0 ∷ pos (g .grade) ∷ flag (g .limit) ∷ []
+
+abbrev pub gradedAnswer : Graded → Answer ℤ
+gradedAnswer (Graded-given g) = numbers (gradeNumbers g)
+gradedAnswer (Refused r) = refused (numberOf r)

@@ -1,2 +1,3 @@
 -- Laws of the quantities.
 pub mod Rim
+pub mod Answers

@@ -1,10 +1,14 @@
 -- The sheet of a band set, and the rating call: a sheet, or the one refusal that is given. Document 01, "Rating", "Sums of
 -- energies" (each term rounded), and the order of refusals: 1, then 4.
 use mathlib.Core.Bool.{Bool, true, false}
+use mathlib.Core.List.{List, [], _∷_}
 use Prim.Native.Nat.{ℕ}
 use lib.Dec.{eqb}
 use lib.IntN.{ℤ, pos}
 use Rattle.quantity.specs.Quantities.{halfUp, bandOf}
+use Rattle.quantity.specs.Refusals.{numberOf}
+use Rattle.quantity.specs.Answers.{Answer, flag}
+use Rattle.quantity.specs.Answers.Answer.{refused, numbers}
 use Rattle.quantity.specs.declared.quantities.BandSet.{BandSet}
 use Rattle.quantity.specs.declared.quantities.Decibels.{Decibels}
 use Rattle.quantity.specs.declared.refusals.Refusal.the-variants.{BandCount, BandRange}
@@ -42,10 +46,14 @@ sheetOf k s = record {
   limit = limited s (bandsOf k);
 }
 
--- the second term of an airborne sheet
+-- the second term, 0 where there is none, and whether there is one
 abbrev pub termOf : Term → ℤ
 termOf (Given d) = d .0
 termOf Absent = pos 0
+
+abbrev pub termFlag : Term → ℤ
+termFlag (Given d) = pos 1
+termFlag Absent = pos 0
 
 -- a refusal where a test fails
 abbrev pub asked : Bool → Rated → Rated → Rated
@@ -56,3 +64,11 @@ asked false a b = b
 unfoldable pub ratedOf : Kind → BandSet → Rated
 ratedOf k s =
     asked (eqb (s .len) (bandsOf k)) (asked (accepted s (bandsOf k)) (Rating (sheetOf k s)) (Refused BandRange)) (Refused BandCount)
+
+-- in the paper's numbers: rating, first term, second term, whether there is one, shifts, mark; or the refusal
+abbrev pub sheetNumbers : Sheet → List ℤ
+sheetNumbers s = s .rating .0 ∷ s .first .0 ∷ termOf (s .second) ∷ termFlag (s .second) ∷ pos (s .shifts) ∷ flag (s .limit) ∷ []
+
+abbrev pub ratedAnswer : Rated → Answer ℤ
+ratedAnswer (Rating s) = numbers (sheetNumbers s)
+ratedAnswer (Refused r) = refused (numberOf r)

@@ -1,5 +1,7 @@
 -- `desk::ratings::rate_readings` meets its contract: intake for the kind's count, then the rating. Assumes nothing.
 use borrow.Author.Needs.{needs}
+use mathlib.Core.Path.{ap}
+use Rattle.rating.specs.Sheets.{ratedAnswer}
 use Rattle.curve.proofs.Searched.{count-most}
 use Rattle.rating.proofs.Facts.{count-of}
 use Rattle.desk.proofs.Joined.{readings-refused, readings-rated}
@@ -27,15 +29,15 @@ returns c =
     let b = c .before .before .before .before in
     let r = c .before .before .before .take-list in
     let w = c .before .outcome .given in
-    readings-refused (b .before .args .kind) (b .before .args .readings) (b .before .args .len) (b .bands-of .result) (r .result) (w .0 .0)
-    (b .bands-of .ensures) (r .ensures) (w .1)
+    ap ratedAnswer (readings-refused (b .before .args .kind) (b .before .args .readings) (b .before .args .len) (b .bands-of .result) (r .result) (w .0 .0)
+    (b .bands-of .ensures) (r .ensures) (w .1))
 
 returns-2 : tie.Need-returns-2
 returns-2 c =
     let b = c .before .before .before .before .before in
     let r = c .before .before .before .before .take-list in
-    readings-rated (b .before .args .kind) (b .before .args .readings) (b .before .args .len) (b .bands-of .result) (r .result) (c .rate .result)
-    (b .bands-of .ensures) (r .ensures) (c .before .before .enum-told .given .1) (c .rate .ensures)
+    ap ratedAnswer (readings-rated (b .before .args .kind) (b .before .args .readings) (b .before .args .len) (b .bands-of .result) (r .result) (c .rate .result)
+    (b .bands-of .ensures) (r .ensures) (c .before .before .enum-told .given .1) (c .rate .ensures))
 
 pub rate-readings-spec : {M : Type 1} → statement M
 rate-readings-spec =

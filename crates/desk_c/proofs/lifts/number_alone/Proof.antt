@@ -3,7 +3,7 @@ use borrow.Author.Needs.{needs}
 use mathlib.Core.Path.{sym, _∙_, ap}
 use Rattle.lift.specs.declared.lists.Lifted.{Lifted}
 use Rattle.door.specs.Answers.{returned}
-use Rattle.desk_c.specs.Lifts.{countAnswer}
+use Rattle.lift.specs.Calls.{countAnswer}
 use Rattle.desk_c.proofs.lifts.number_alone.Statement.{statement}
 use Rattle.desk_c.proofs.lifts.number_alone.Tie as tie
 

@@ -1,8 +1,7 @@
 -- `desk_c::measured::imbrolt_cover` meets its contract. Assumes nothing.
 use borrow.Author.Needs.{needs}
 use mathlib.Core.Path.{_∙_, ap}
-use Rattle.products.specs.Covers.{coverOf}
-use Rattle.door.specs.Given.{coverNumbers}
+use Rattle.products.specs.Covers.{coverOf, improvementAnswer}
 use Rattle.door.proofs.Gives.{given}
 use Rattle.desk_c.specs.Rooms.{coverAnswer}
 use Rattle.desk_c.proofs.measured.imbrolt_cover.Statement.{statement}
@@ -26,8 +25,8 @@ returns c =
     let a = c .before .before .before .before .before .args in
     let g = c .before .give-cover in
     let t = c .before .before .cover in
-    given (coverNumbers (t .result)) (coverAnswer (a .values .now) (a .marks)) (g .result) (a .out .now) (g .last .0)
-    (ap coverNumbers (t .ensures ∙ ap coverOf (c .before .before .before .set-from .ensures))) (g .ensures)
+    given (improvementAnswer (t .result)) (coverAnswer (a .values .now) (a .marks)) (g .result) (a .out .now) (g .last .0)
+    (ap improvementAnswer (t .ensures ∙ ap coverOf (c .before .before .before .set-from .ensures))) (g .ensures)
 
 pub imbrolt-cover-spec : {M : Type 1} → statement M
 imbrolt-cover-spec =

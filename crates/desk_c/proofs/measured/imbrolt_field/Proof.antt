@@ -3,7 +3,7 @@ use borrow.Author.Needs.{needs}
 use mathlib.Core.Path.{_∙_, ap, ap₂}
 use Rattle.quantity.proofs.Rim.{back}
 use Rattle.rooms.specs.Background.{fieldOf}
-use Rattle.door.specs.Given.{takenAnswer}
+use Rattle.intake.specs.Taken.{takenAnswer}
 use Rattle.door.proofs.Gives.{given}
 use Rattle.desk_c.specs.Rooms.{fieldAnswer}
 use Rattle.desk_c.proofs.measured.imbrolt_field.Statement.{statement}

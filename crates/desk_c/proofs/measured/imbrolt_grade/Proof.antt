@@ -5,8 +5,8 @@ use mathlib.Core.List.{List}
 use lib.ListN.{length}
 use Rattle.quantity.specs.declared.quantities.Reading.{Reading}
 use Rattle.products.specs.declared.grades.Side.{Side}
-use Rattle.products.specs.Grades.{gradesOf}
-use Rattle.door.specs.Given.{gradedAnswer, GradeFits}
+use Rattle.products.specs.Grades.{gradesOf, gradedAnswer}
+use Rattle.door.specs.Given.{GradeFits}
 use Rattle.door.proofs.Gives.{given}
 use Rattle.desk_c.specs.Rooms.{gradeAnswer}
 use Rattle.desk_c.proofs.Fits.{grades-fit}

@@ -3,7 +3,7 @@ use borrow.Author.Needs.{needs}
 use mathlib.Core.Path.{_∙_, ap}
 use Rattle.measurement.specs.declared.lists.Intake.{Intake}
 use Rattle.means.specs.Sets.{octavesOf}
-use Rattle.door.specs.Given.{intakeAnswer}
+use Rattle.measurement.specs.Lists.{intakeAnswer}
 use Rattle.door.proofs.Gives.{given}
 use Rattle.desk_c.specs.Rooms.{octavesAnswer}
 use Rattle.desk_c.proofs.measured.imbrolt_octaves.Statement.{statement}

@@ -1,7 +1,7 @@
 -- `desk_c::measured::imbrolt_raw` meets its contract. Assumes nothing.
 use borrow.Author.Needs.{needs}
 use mathlib.Core.Path.{ap}
-use Rattle.door.specs.Given.{takenAnswer}
+use Rattle.intake.specs.Taken.{takenAnswer}
 use Rattle.door.proofs.Gives.{given}
 use Rattle.desk_c.specs.Rooms.{rawAnswer}
 use Rattle.desk_c.proofs.measured.imbrolt_raw.Statement.{statement}

@@ -6,7 +6,7 @@ use lib.ListN.{length}
 use Rattle.quantity.specs.declared.quantities.Reading.{Reading}
 use Rattle.measurement.specs.declared.lists.Intake.{Intake}
 use Rattle.means.specs.Sets.{specimensOf}
-use Rattle.door.specs.Given.{intakeAnswer}
+use Rattle.measurement.specs.Lists.{intakeAnswer}
 use Rattle.door.proofs.Gives.{given}
 use Rattle.desk_c.specs.Rooms.{specimensAnswer}
 use Rattle.desk_c.proofs.measured.imbrolt_specimens.Statement.{statement}

@@ -1,10 +1,10 @@
 -- `desk_c::ratings::imbrolt_rate` meets its contract: the kind of the number, then the rating. Assumes nothing.
 use borrow.Author.Needs.{needs}
 use mathlib.Core.Path.{sym, _∙_, ap, subst}
-use Rattle.rating.specs.Sheets.{ratedOf}
+use Rattle.rating.specs.Sheets.{ratedOf, ratedAnswer}
 use Rattle.door.specs.Kinds.{kindOf}
 use Rattle.door.specs.Lists.{setFrom}
-use Rattle.door.specs.Given.{ratedAnswer, Fitting}
+use Rattle.door.specs.Given.{Fitting}
 use Rattle.door.proofs.Gives.{given, refuses}
 use Rattle.desk_c.specs.Ratings.{rateAnswer}
 use Rattle.desk_c.proofs.Named.{by-none, by-one}

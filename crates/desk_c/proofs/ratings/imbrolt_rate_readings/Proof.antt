@@ -7,7 +7,8 @@ use Rattle.quantity.specs.declared.quantities.Reading.{Reading}
 use Rattle.desk.specs.Calls.{readingsRated}
 use Rattle.door.specs.Kinds.{kindOf}
 use Rattle.door.specs.Lists.{readingsFrom}
-use Rattle.door.specs.Given.{ratedAnswer, Fitting}
+use Rattle.rating.specs.Sheets.{ratedAnswer}
+use Rattle.door.specs.Given.{Fitting}
 use Rattle.door.proofs.Gives.{given, refuses}
 use Rattle.desk_c.specs.Ratings.{readingsAnswer}
 use Rattle.desk_c.proofs.Named.{by-none, by-one}

@@ -1,8 +1,7 @@
 -- `desk_c::ratings::imbrolt_reading` meets its contract. Assumes nothing.
 use borrow.Author.Needs.{needs}
 use mathlib.Core.Path.{_∙_, ap}
-use Rattle.intake.specs.Taken.{takenOf}
-use Rattle.door.specs.Given.{takenAnswer}
+use Rattle.intake.specs.Taken.{takenOf, takenAnswer}
 use Rattle.door.proofs.Gives.{given}
 use Rattle.desk_c.specs.Ratings.{readingAnswer}
 use Rattle.desk_c.proofs.ratings.imbrolt_reading.Statement.{statement}

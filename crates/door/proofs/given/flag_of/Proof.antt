@@ -1,6 +1,6 @@
 -- `door::given::flag_of` meets its contract. Assumes nothing.
 use mathlib.Core.Path.{sym, ap}
-use Rattle.door.specs.Answers.{flag}
+use Rattle.quantity.specs.Answers.{flag}
 use Rattle.door.proofs.given.flag_of.Statement.{statement}
 use Rattle.door.proofs.given.flag_of.Tie as tie
 

@@ -2,7 +2,7 @@
 use borrow.Author.Needs.{needs}
 use mathlib.Core.Path.{_∙_}
 use Rattle.quantity.proofs.Rim.{back}
-use Rattle.door.specs.Given.{coverNumbers}
+use Rattle.products.specs.Covers.{improvementAnswer}
 use Rattle.door.proofs.Gives.{given, cover-given}
 use Rattle.door.proofs.given.give_cover.Statement.{statement}
 use Rattle.door.proofs.given.give_cover.Tie as tie
@@ -40,7 +40,7 @@ returns c =
     let s = c .before .before .before .before .before .before .before .before .before in
     let g = c .before .give in
     let f = c .before .before .before .flag-of in
-    given _ (coverNumbers (s .args .cover)) (g .result) (s .args .out .now) (g .last .0)
+    given _ (improvementAnswer (s .args .cover)) (g .result) (s .args .out .now) (g .last .0)
     (cover-given (s .args .cover) (w .0 .0) (w .0 .1 .0) (w .0 .1 .1 .0) _ _ _ (w .1) (back (w .0 .0 .0) (c .before .before .before .before .before .struct-told .given .0 .1))
     (back (w .0 .1 .0 .0) (c .before .before .before .before .struct-told2 .given .0 .1)) (back (f .result) (f .ok) ∙ f .ensures))
     (g .ensures)

@@ -3,7 +3,7 @@ use borrow.Author.Needs.{needs}
 use mathlib.Core.Path.{_∙_}
 use native.Mathlib.Omega.{arith}
 use Rattle.quantity.proofs.Rim.{back, as-pos}
-use Rattle.door.specs.Given.{gradedAnswer}
+use Rattle.products.specs.Grades.{gradedAnswer}
 use Rattle.door.proofs.Gives.{given, grade-given, grade-fitting}
 use Rattle.door.proofs.given.give_graded.Statement.{statement}
 use Rattle.door.proofs.given.give_graded.Tie as tie

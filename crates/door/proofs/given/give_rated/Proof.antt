@@ -3,7 +3,7 @@ use borrow.Author.Needs.{needs}
 use mathlib.Core.Path.{_∙_}
 use native.Mathlib.Omega.{arith}
 use Rattle.quantity.proofs.Rim.{back, as-pos}
-use Rattle.door.specs.Given.{ratedAnswer}
+use Rattle.rating.specs.Sheets.{ratedAnswer}
 use Rattle.door.proofs.Gives.{given, sheet-given, fitting}
 use Rattle.door.proofs.given.give_rated.Statement.{statement}
 use Rattle.door.proofs.given.give_rated.Tie as tie

@@ -3,8 +3,8 @@ use borrow.Author.Needs.{needs}
 use mathlib.Core.Path.{sym, _∙_, ap}
 use Prim.Native.Nat.{_+_}
 use lib.ListN.{take}
-use Rattle.door.specs.Answers.Answer.{numbers}
-use Rattle.door.specs.Given.{setAnswer, intakeAnswer}
+use Rattle.quantity.specs.Answers.Answer.{numbers}
+use Rattle.measurement.specs.Lists.{setAnswer, intakeAnswer}
 use Rattle.door.proofs.Gives.{given}
 use Rattle.door.proofs.given.give_set.Statement.{statement}
 use Rattle.door.proofs.given.give_set.Tie as tie

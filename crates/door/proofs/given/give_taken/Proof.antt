@@ -2,7 +2,7 @@
 use borrow.Author.Needs.{needs}
 use mathlib.Core.Path.{_∙_}
 use Rattle.quantity.proofs.Rim.{back}
-use Rattle.door.specs.Given.{takenAnswer}
+use Rattle.intake.specs.Taken.{takenAnswer}
 use Rattle.door.proofs.Gives.{given, taken-given}
 use Rattle.door.proofs.given.give_taken.Statement.{statement}
 use Rattle.door.proofs.given.give_taken.Tie as tie

@@ -7,8 +7,7 @@ use borrow.Author.Needs.{needs}
 use lib.IntN.{ℤ, pos}
 use Rattle.quantity.specs.Quantities.{bandOf}
 use Rattle.quantity.proofs.Rim.{back}
-use Rattle.door.specs.Lists.{listed}
-use Rattle.door.specs.Given.{setNumbers}
+use Rattle.measurement.specs.Lists.{listed, setNumbers}
 use Rattle.door.proofs.Listing.{Agreed, agreed-none, agreed-set, agreed-then}
 use Rattle.door.proofs.given.set_numbers.Statement.{statement}
 use Rattle.door.proofs.given.set_numbers.Tie as tie

@@ -1,7 +1,7 @@
 -- `door::given::term_flag` meets its contract. Assumes nothing.
 use borrow.Author.Needs.{needs}
 use mathlib.Core.Path.{sym, ap}
-use Rattle.door.specs.Given.{termFlag}
+use Rattle.rating.specs.Sheets.{termFlag}
 use Rattle.door.proofs.given.term_flag.Statement.{statement}
 use Rattle.door.proofs.given.term_flag.Tie as tie
 

@@ -1,0 +1,65 @@
+-- The paper's numbers tell refusals apart, and marks: each is read back from its number. So answers with the same numbers are the
+-- same answer. Assumes nothing.
+use mathlib.Core.Path.{_≡_, refl, sym, _∙_, ap}
+use mathlib.Core.Bool.{Bool, true, false}
+use mathlib.Core.List.{List}
+use Prim.Native.Nat.{ℕ, zero, suc}
+use native.Mathlib.Omega.{arith}
+use lib.IntN.{ℤ, pos, negsuc}
+use Rattle.quantity.specs.declared.refusals.Refusal.{Refusal}
+use Rattle.quantity.specs.declared.refusals.Refusal.the-variants.{BandCount, NotFinite, NoReading, BandRange, Background, DerivedRange, TimeRange, NotBetter, TargetRange, NoRoom, NotRequest, SpecimenCount}
+use Rattle.quantity.specs.Refusals.{numberOf}
+use Rattle.quantity.specs.Answers.{flag}
+use Rattle.quantity.specs.Answers.Answer.{refused, numbers}
+
+-- the refusal of a number (of 0 and of numbers past 12 any)
+withNumber : ℕ → Refusal
+withNumber zero = BandCount
+withNumber (suc zero) = BandCount
+withNumber (suc (suc zero)) = NotFinite
+withNumber (suc (suc (suc zero))) = NoReading
+withNumber (suc (suc (suc (suc zero)))) = BandRange
+withNumber (suc (suc (suc (suc (suc zero))))) = Background
+withNumber (suc (suc (suc (suc (suc (suc zero)))))) = DerivedRange
+withNumber (suc (suc (suc (suc (suc (suc (suc zero))))))) = TimeRange
+withNumber (suc (suc (suc (suc (suc (suc (suc (suc zero)))))))) = NotBetter
+withNumber (suc (suc (suc (suc (suc (suc (suc (suc (suc zero))))))))) = TargetRange
+withNumber (suc (suc (suc (suc (suc (suc (suc (suc (suc (suc zero)))))))))) = NoRoom
+withNumber (suc (suc (suc (suc (suc (suc (suc (suc (suc (suc (suc zero))))))))))) = NotRequest
+withNumber (suc (suc (suc (suc (suc (suc (suc (suc (suc (suc (suc (suc zero)))))))))))) = SpecimenCount
+withNumber (suc (suc (suc (suc (suc (suc (suc (suc (suc (suc (suc (suc (suc n))))))))))))) = SpecimenCount
+
+with-number : (r : Refusal) → withNumber (numberOf r) ≡ r
+unfolding withNumber
+with-number BandCount = refl
+with-number NotFinite = refl
+with-number NoReading = refl
+with-number BandRange = refl
+with-number Background = refl
+with-number DerivedRange = refl
+with-number TimeRange = refl
+with-number NotBetter = refl
+with-number TargetRange = refl
+with-number NoRoom = refl
+with-number NotRequest = refl
+with-number SpecimenCount = refl
+
+pub number-one : (a b : Refusal) → numberOf a ≡ numberOf b → a ≡ b
+number-one a b e = sym (with-number a) ∙ ap withNumber e ∙ with-number b
+
+marked : ℤ → Bool
+marked (pos zero) = false
+marked (pos (suc n)) = true
+marked (negsuc n) = true
+
+flag-back : (t : Bool) → marked (flag t) ≡ t
+unfolding marked
+flag-back true = refl
+flag-back false = refl
+
+pub flag-one : (s t : Bool) → flag s ≡ flag t → s ≡ t
+flag-one s t e = sym (flag-back s) ∙ ap marked e ∙ flag-back t
+
+-- values are no refusal
+pub clash : {A B : Type 0} {n : ℕ} {xs : List A} → refused n ≡ numbers xs → B
+clash e = let z : _≡_ {A = ℕ} 0 1 = cc in absurd (omega arith)
