@@ -1,5 +1,6 @@
 -- The count of shifts of every rating is at most 500, by the bound in its definition, and every grade at most 6, so that they
 -- fit an answer. Assumes nothing.
+use mathlib.Core.Path.{_≡_, sym, subst}
 use mathlib.Core.Bool.{Bool, true, false, cond}
 use mathlib.Core.List.{List}
 use Prim.Native.Nat.{ℕ, _≤_}
@@ -20,15 +21,21 @@ use Rattle.rating.specs.declared.kinds.Kind.the-variants.{A3}
 use Rattle.rating.specs.declared.sheets.Rated.{Rated}
 use Rattle.rating.specs.declared.sheets.Rated.the-variants.{Rating, Refused}
 use Rattle.rating.specs.Kinds.{bandsOf}
-use Rattle.rating.specs.Sheets.{asked, sheetOf, ratedOf}
+use Rattle.rating.specs.Sheets.{asked, sheetOf, ratedOf, ratedAnswer}
 use Rattle.products.specs.declared.grades.Side.{Side}
+use Rattle.products.specs.declared.grades.Graded.{Graded}
 use Rattle.means.specs.Sets.{specimensOf}
-use Rattle.products.specs.Grades.{gradeOf, decidingOf, gradedBy, graded, gradesOf}
+use Rattle.products.specs.Grades.{gradeOf, decidingOf, gradedBy, graded, gradesOf, gradedAnswer}
 use Rattle.rating.proofs.Small.{shifts-most}
 use Rattle.door.specs.Given.{Fitting, GradeFits}
+use Rattle.desk.proofs.Answers.{rated-one, graded-one}
 use Rattle.desk.specs.Calls.{ratedBy, readingsRated}
 
-pub rated-fits : (k : Kind) (s : BandSet) → Fitting (ratedOf k s)
+-- an answer of the same numbers fits too
+fits-as : (r t : Rated) → ratedAnswer r ≡ ratedAnswer t → Fitting t → Fitting r
+fits-as r t e h = subst Fitting (sym (rated-one r t e)) h
+
+rated-fits : (k : Kind) (s : BandSet) → Fitting (ratedOf k s)
 unfolding ratedOf sheetOf
 rated-fits k s = go (eqb (s .len) (bandsOf k)) (accepted s (bandsOf k))
   where
@@ -37,9 +44,12 @@ rated-fits k s = go (eqb (s .len) (bandsOf k)) (accepted s (bandsOf k))
     go true false = tt
     go false b = tt
 
-pub readings-fit : (k : Kind) (readings : List Reading) (len : ℕ) → Fitting (readingsRated k readings len)
+pub rate-fits : (k : Kind) (s : BandSet) (r : Rated) → ratedAnswer r ≡ ratedAnswer (ratedOf k s) → Fitting r
+rate-fits k s r e = fits-as r (ratedOf k s) e (rated-fits k s)
+
+pub readings-fit : (k : Kind) (readings : List Reading) (len : ℕ) (r : Rated) → ratedAnswer r ≡ ratedAnswer (readingsRated k readings len) → Fitting r
 unfolding readingsRated
-readings-fit k readings len = go (listOf readings len (bandsOf k) .set) (listOf readings len (bandsOf k) .outcome)
+readings-fit k readings len r e = fits-as r (readingsRated k readings len) e (go (listOf readings len (bandsOf k) .set) (listOf readings len (bandsOf k) .outcome))
   where
     go : (s : BandSet) (o : Outcome) → Fitting (ratedBy k s o)
     go s outcome.Accepted = rated-fits k s
@@ -57,9 +67,11 @@ grade-bound z =
     go true h k = k
     go false h k = h
 
-pub grades-fit : (readings : List Reading) (len : ℕ) (side : Side) → GradeFits (gradesOf readings len side)
+pub grades-fit : (readings : List Reading) (len : ℕ) (side : Side) (r : Graded) → gradedAnswer r ≡ gradedAnswer (gradesOf readings len side) → GradeFits r
 unfolding gradesOf
-grades-fit readings len side = go (specimensOf readings len .set) (specimensOf readings len .outcome)
+grades-fit readings len side r e =
+    subst GradeFits (sym (graded-one r (graded side (specimensOf readings len .set) (specimensOf readings len .outcome)) e))
+    (go (specimensOf readings len .set) (specimensOf readings len .outcome))
   where
     by : (r : Rated) → GradeFits (gradedBy side r)
     by (Rating sheet) = grade-bound (decidingOf side sheet)

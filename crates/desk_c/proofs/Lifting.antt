@@ -81,19 +81,19 @@ module _ (k : Kind) (s : BandSet) (t : ℤ) where
 
   -- with room, the answer decides
   by-answer : (list : List ℕ) (out : List ℤ) (a : Lifted) (list′ : List ℕ) → 1 ≤ length out → a ≡ answerOf k s t (length list)
-      → list′ ≡ bufferBy a (liftList k (bandOf s) t) list → (r : ℕ) (out′ : List ℤ) → r ≡ returned (countAnswer a) (length out) → out′ ≡ held (countAnswer a) out
+      → list′ ≡ bufferBy (answerOf k s t (length list)) (liftList k (bandOf s) t) list → (r : ℕ) (out′ : List ℤ) → r ≡ returned (countAnswer a) (length out) → out′ ≡ held (countAnswer a) out
       → LiftLeft k s t list out r list′ out′
   unfolding listBy
   by-answer list out a list′ h e b r out′ p q = (
     p ∙ ap (λ (l : Lifted). returned (countAnswer l) (length out)) e,
     (
-      b ∙ ap (λ (l : Lifted). bufferBy l (liftList k (bandOf s) t) list) e ∙ rw (le-leb 1 (length out) h) refl,
+      b ∙ rw (le-leb 1 (length out) h) refl,
       q ∙ ap (λ (l : Lifted). held (countAnswer l) out) e,
     ),
   )
 
   pub lift-counted : (list : List ℕ) (out : List ℤ) (a : Lifted) (list′ : List ℕ) (n : ℕ) (z : ℤ) → 1 ≤ length out → a ≡ answerOf k s t (length list)
-      → list′ ≡ bufferBy a (liftList k (bandOf s) t) list → a ≡ Count n → z ≡ pos n → LiftLeft k s t list out 0 list′ (set out 0 z)
+      → list′ ≡ bufferBy (answerOf k s t (length list)) (liftList k (bandOf s) t) list → a ≡ Count n → z ≡ pos n → LiftLeft k s t list out 0 list′ (set out 0 z)
   lift-counted list out a list′ n z h e b c d =
       let w = stored (pos 0) out z h in
       by-answer list out a list′ h e b 0 (set out 0 z)
@@ -101,7 +101,7 @@ module _ (k : Kind) (s : BandSet) (t : ℤ) where
       (w .1 ∙ ap (λ (y : ℤ). held (numbers (y ∷ [])) out) d ∙ ap (λ (l : Lifted). held (countAnswer l) out) (sym c))
 
   pub lift-refused : (list : List ℕ) (out : List ℤ) (a : Lifted) (list′ : List ℕ) (q : Refusal) (r : ℕ) → 1 ≤ length out → a ≡ answerOf k s t (length list)
-      → list′ ≡ bufferBy a (liftList k (bandOf s) t) list → a ≡ Refused q → r ≡ numberOf q → LiftLeft k s t list out r list′ out
+      → list′ ≡ bufferBy (answerOf k s t (length list)) (liftList k (bandOf s) t) list → a ≡ Refused q → r ≡ numberOf q → LiftLeft k s t list out r list′ out
   lift-refused list out a list′ q r h e b c d =
       by-answer list out a list′ h e b r out
       (d ∙ ap (λ (l : Lifted). returned (countAnswer l) (length out)) (sym c)) (ap (λ (l : Lifted). held (countAnswer l) out) (sym c))

@@ -12,7 +12,7 @@ use Rattle.rating.specs.declared.kinds.Kind.{Kind}
 use Rattle.lift.specs.declared.lists.Lifted.{Lifted}
 use Rattle.lift.specs.declared.lists.Lifted.the-variants.{Count, Refused}
 use Rattle.lift.specs.Reach.{liftList}
-use Rattle.lift.specs.Calls.{answerOf, bufferBy}
+use Rattle.lift.specs.Calls.{answerOf, bufferBy, countAnswer}
 use Rattle.door.specs.declared.kinds.Named.{Named}
 use Rattle.door.specs.declared.kinds.Named.the-variants.{Is, Unknown}
 use Rattle.quantity.specs.Answers.{Answer}

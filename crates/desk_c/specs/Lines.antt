@@ -8,7 +8,7 @@ use Rattle.quantity.specs.Refusals.{numberOf}
 use Rattle.line.specs.declared.lines.Wrote.{Wrote}
 use Rattle.line.specs.declared.lines.Wrote.the-variants.{Bytes, Refused}
 use Rattle.reply.specs.Answers.{answerOf}
-use Rattle.line.specs.Answers.{placed, wroteOf}
+use Rattle.line.specs.Answers.{placed, wroteOf, wroteAnswer}
 use Rattle.line.specs.Blocks.{Block, blockOf}
 use Rattle.quantity.specs.Answers.{Answer}
 use Rattle.door.specs.Answers.{front}

@@ -4,6 +4,8 @@ use Prim.Native.Nat.{ℕ}
 use lib.IntN.{ℤ}
 use lib.Ieee.{Float}
 use lib.ListN.{length}
+use Rattle.rating.specs.declared.kinds.Kind.the-variants.{A3, A1}
+use Rattle.rating.specs.Kinds.{bandsOf}
 use Rattle.rooms.specs.declared.raw.RawBand.{RawBand}
 use Rattle.rooms.specs.Background.{fieldOf, laboratoryOf}
 use Rattle.rooms.specs.Raw.{rawOf}
@@ -31,11 +33,11 @@ rawAnswer raw = takenAnswer (rawOf raw)
 
 -- imbrolt_octaves
 unfoldable pub octavesAnswer : List ℤ → ℕ → Answer ℤ
-octavesAnswer values marks = intakeAnswer (octavesOf (setFrom values marks)) 5
+octavesAnswer values marks = intakeAnswer (octavesOf (setFrom values marks)) (bandsOf A1)
 
 -- imbrolt_specimens
 unfoldable pub specimensAnswer : List ℕ → List Float → Answer ℤ
-specimensAnswer marks values = intakeAnswer (specimensOf (readingsFrom marks values) (length values)) 16
+specimensAnswer marks values = intakeAnswer (specimensOf (readingsFrom marks values) (length values)) (bandsOf A3)
 
 -- imbrolt_cover
 unfoldable pub coverAnswer : List ℤ → ℕ → Answer ℤ

@@ -8,6 +8,8 @@ use door::readings_from;
 use door::set_from;
 use door::side_of;
 use quantity::Tenths;
+use rating::A1Kind;
+use rating::A3Kind;
 use rooms::RawBand;
 ghost use mathlib.Core.Path.{_≡_};
 ghost use lib.ListN.{length};
@@ -64,7 +66,7 @@ pub extern "C" fn imbrolt_octaves(values: &[i32], marks: u32, out: &mut [i32]) -
     ensures { λ r. ⌜ r ≡ returned (octavesAnswer (now (values .entry)) marks) (length (now (out .entry))) ⌝ }
     ensures { λ _. ⌜ now (out .exit) ≡ held (octavesAnswer (now (values .entry)) marks) (now (out .entry)) ⌝ }
 {
-    give_set(out, desk::octaves(set_from(values, marks)), 5)
+    give_set(out, desk::octaves(set_from(values, marks)), A1Kind::BANDS)
 }
 
 // Sixteen band means of three specimens, and their marks.
@@ -76,7 +78,7 @@ pub extern "C" fn imbrolt_specimens(marks: &[u8], values: &[f32], out: &mut [i32
     give_set(
         out,
         desk::specimens(readings_from(marks, values), values.len()),
-        16,
+        A3Kind::BANDS,
     )
 }
 

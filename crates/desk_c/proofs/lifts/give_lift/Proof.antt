@@ -4,6 +4,7 @@ use mathlib.Core.Path.{sym, _∙_}
 use native.Mathlib.Omega.{arith}
 use lib.ListN.{length}
 use Rattle.quantity.proofs.Rim.{as-pos}
+use Rattle.desk.proofs.Answers.{lifted-one}
 use Rattle.desk_c.proofs.Lifting.{lift-alone, lift-counted, lift-refused, count-small}
 use Rattle.desk_c.proofs.lifts.give_lift.Statement.{statement}
 use Rattle.desk_c.proofs.lifts.give_lift.Tie as tie
@@ -26,7 +27,7 @@ cast-count : tie.Need-cast-count
 cast-count c =
     let a = c .before .before .before .before .before .before .before .before .before .args in
     let l = c .before .before .before .before .before .lift in
-    let h = count-small (a .kind) (a .set) (a .target .0) (length (a .list .now)) (c .before .n .given .0 .0) (sym (l .ensures .answer) ∙ c .before .n .given .1) in
+    let h = count-small (a .kind) (a .set) (a .target .0) (length (a .list .now)) (c .before .n .given .0 .0) (sym (lifted-one (l .result) _ (l .ensures .0)) ∙ c .before .n .given .1) in
     record { sfits = omega arith }
 
 slice-set-from-count : tie.Need-slice-set-from-count
@@ -49,9 +50,9 @@ returns-2 c =
     let a = c .before .before .before .before .before .before .before .before .before .args in
     let l = c .before .before .before .before .before .lift in
     let w = c .before .n .given in
-    let h = count-small (a .kind) (a .set) (a .target .0) (length (a .list .now)) (w .0 .0) (sym (l .ensures .answer) ∙ w .1) in
+    let h = count-small (a .kind) (a .set) (a .target .0) (length (a .list .now)) (w .0 .0) (sym (lifted-one (l .result) _ (l .ensures .0)) ∙ w .1) in
     lift-counted (a .kind) (a .set) (a .target .0) (a .list .now) (a .out .now) (l .result) (l .last .1 .1 .1 .0) (w .0 .0) _ (omega (arith, c .before .before .before .before .before .before .before .if1 .left))
-    (l .ensures .answer) (l .ensures .buffer) (w .1) (as-pos (w .0 .0) (omega arith))
+    (lifted-one (l .result) _ (l .ensures .0)) (l .ensures .1) (w .1) (as-pos (w .0 .0) (omega arith))
 
 same-length-3 : tie.Need-same-length-3
 same-length-3 c = search needs
@@ -62,7 +63,7 @@ returns-3 c =
     let l = c .before .before .before .before .before .before .lift in
     let w = c .before .before .refusal .given in
     lift-refused (a .kind) (a .set) (a .target .0) (a .list .now) (a .out .now) (l .result) (l .last .1 .1 .1 .0) (w .0 .0) (c .number .result) (omega (arith, c .before .before .before .before .before .before .before .before .if1 .left))
-    (l .ensures .answer) (l .ensures .buffer) (w .1) (c .number .ensures)
+    (lifted-one (l .result) _ (l .ensures .0)) (l .ensures .1) (w .1) (c .number .ensures)
 
 pub give-lift-spec : {M : Type 1} → statement M
 give-lift-spec =

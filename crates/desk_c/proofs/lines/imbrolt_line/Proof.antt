@@ -1,6 +1,7 @@
 -- `desk_c::lines::imbrolt_line` meets its contract. Assumes nothing.
 use borrow.Author.Needs.{needs}
 use native.Mathlib.Omega.{arith}
+use Rattle.desk.proofs.Answers.{wrote-one}
 use Rattle.desk_c.proofs.Lining.{line-no-place, line-written, line-refused}
 use Rattle.desk_c.proofs.lines.imbrolt_line.Statement.{statement}
 use Rattle.desk_c.proofs.lines.imbrolt_line.Tie as tie
@@ -36,7 +37,7 @@ returns-2 c =
     let a = c .before .before .before .before .before .before .before .before .before .before .before .args in
     let l = c .before .before .before .before .before .answer-line in
     let w = c .before .n .given in
-    line-written (a .line .now) (a .out .now) (a .at) (a .wrote .now) (omega (arith, c .before .before .before .before .before .before .before .if1 .left)) (l .result) (l .last .1 .0) (l .ensures .0) (l .ensures .1)
+    line-written (a .line .now) (a .out .now) (a .at) (a .wrote .now) (omega (arith, c .before .before .before .before .before .before .before .if1 .left)) (l .result) (l .last .1 .0) (wrote-one (l .result) _ (l .ensures .0)) (l .ensures .1)
     (w .0 .0) (w .1)
 
 same-length-3 : tie.Need-same-length-3
@@ -47,7 +48,7 @@ returns-3 c =
     let a = c .before .before .before .before .before .before .before .before .before .before .before .before .args in
     let l = c .before .before .before .before .before .before .answer-line in
     let w = c .before .before .refusal .given in
-    line-refused (a .line .now) (a .out .now) (a .at) (a .wrote .now) (omega (arith, c .before .before .before .before .before .before .before .before .if1 .left)) (l .result) (l .last .1 .0) (l .ensures .0) (l .ensures .1)
+    line-refused (a .line .now) (a .out .now) (a .at) (a .wrote .now) (omega (arith, c .before .before .before .before .before .before .before .before .if1 .left)) (l .result) (l .last .1 .0) (wrote-one (l .result) _ (l .ensures .0)) (l .ensures .1)
     (w .0 .0) (c .number .result) (w .1) (c .number .ensures)
 
 pub imbrolt-line-spec : {M : Type 1} → statement M

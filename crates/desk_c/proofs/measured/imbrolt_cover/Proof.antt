@@ -26,7 +26,7 @@ returns c =
     let g = c .before .give-cover in
     let t = c .before .before .cover in
     given (improvementAnswer (t .result)) (coverAnswer (a .values .now) (a .marks)) (g .result) (a .out .now) (g .last .0)
-    (ap improvementAnswer (t .ensures ∙ ap coverOf (c .before .before .before .set-from .ensures))) (g .ensures)
+    (t .ensures ∙ ap improvementAnswer (ap coverOf (c .before .before .before .set-from .ensures))) (g .ensures)
 
 pub imbrolt-cover-spec : {M : Type 1} → statement M
 imbrolt-cover-spec =

@@ -25,7 +25,7 @@ returns c =
     let a = s .args in
     let g = c .before .give-taken in
     let t = c .before .before .correct-field in
-    given (takenAnswer (t .result)) (fieldAnswer (a .total) (a .background)) (g .result) (a .out .now) (g .last .0) (ap takenAnswer (t .ensures ∙ ap₂ fieldOf (back (a .total) (s .fits .total .sfits)) (back (a .background) (s .fits .background .sfits))))
+    given (takenAnswer (t .result)) (fieldAnswer (a .total) (a .background)) (g .result) (a .out .now) (g .last .0) (t .ensures ∙ ap takenAnswer (ap₂ fieldOf (back (a .total) (s .fits .total .sfits)) (back (a .background) (s .fits .background .sfits))))
     (g .ensures)
 
 pub imbrolt-field-spec : {M : Type 1} → statement M

@@ -1,12 +1,11 @@
 -- `desk_c::measured::imbrolt_grade` meets its contract. Assumes nothing.
 use borrow.Author.Needs.{needs}
-use mathlib.Core.Path.{sym, _∙_, ap₂, ap, subst}
+use mathlib.Core.Path.{_∙_, ap₂, ap}
 use mathlib.Core.List.{List}
 use lib.ListN.{length}
 use Rattle.quantity.specs.declared.quantities.Reading.{Reading}
 use Rattle.products.specs.declared.grades.Side.{Side}
 use Rattle.products.specs.Grades.{gradesOf, gradedAnswer}
-use Rattle.door.specs.Given.{GradeFits}
 use Rattle.door.proofs.Gives.{given}
 use Rattle.desk_c.specs.Rooms.{gradeAnswer}
 use Rattle.desk_c.proofs.Fits.{grades-fit}
@@ -24,8 +23,8 @@ grade-requires c κs = search needs
 
 give-graded-requires : tie.Need-give-graded-requires
 give-graded-requires c κs =
-    subst GradeFits (sym (c .grade .ensures))
-    (grades-fit (c .before .before .readings-from .result) (length (c .before .before .before .before .before .before .args .values .now)) (c .before .side-of .result))
+    grades-fit (c .before .before .readings-from .result) (length (c .before .before .before .before .before .before .args .values .now)) (c .before .side-of .result)
+    (c .grade .result) (c .grade .ensures)
 
 same-length : tie.Need-same-length
 same-length c = search needs
@@ -37,8 +36,8 @@ returns c =
     let g = c .before .give-graded in
     let t = c .before .before .grade in
     given (gradedAnswer (t .result)) (gradeAnswer (a .side) (a .marks .now) (a .values .now)) (g .result) (a .out .now) (g .last .0)
-    (ap gradedAnswer
-    (t .ensures ∙ ap₂ (λ (l : List Reading) (s : Side). gradesOf l (length (a .values .now)) s) (c .before .before .before .before .readings-from .ensures) (c .before .before .before .side-of .ensures)))
+    (t .ensures
+    ∙ ap gradedAnswer (ap₂ (λ (l : List Reading) (s : Side). gradesOf l (length (a .values .now)) s) (c .before .before .before .before .readings-from .ensures) (c .before .before .before .side-of .ensures)))
     (g .ensures)
 
 pub imbrolt-grade-spec : {M : Type 1} → statement M

@@ -5,6 +5,7 @@ use Rattle.quantity.proofs.Rim.{back}
 use Rattle.rooms.specs.Background.{laboratoryOf}
 use Rattle.door.specs.Given.{levelAnswer}
 use Rattle.door.proofs.Gives.{given}
+use Rattle.desk.proofs.Answers.{taken-one}
 use Rattle.desk_c.specs.Rooms.{laboratoryAnswer}
 use Rattle.desk_c.proofs.measured.imbrolt_laboratory.Statement.{statement}
 use Rattle.desk_c.proofs.measured.imbrolt_laboratory.Tie as tie
@@ -25,7 +26,7 @@ returns c =
     let a = s .args in
     let g = c .before .give-level in
     let t = c .before .before .correct-laboratory in
-    given (levelAnswer (t .result)) (laboratoryAnswer (a .total) (a .background)) (g .result) (a .out .now) (g .last .0) (ap levelAnswer (t .ensures ∙ ap₂ laboratoryOf (back (a .total) (s .fits .total .sfits)) (back (a .background) (s .fits .background .sfits))))
+    given (levelAnswer (t .result)) (laboratoryAnswer (a .total) (a .background)) (g .result) (a .out .now) (g .last .0) (ap levelAnswer (taken-one (t .result) _ (t .ensures) ∙ ap₂ laboratoryOf (back (a .total) (s .fits .total .sfits)) (back (a .background) (s .fits .background .sfits))))
     (g .ensures)
 
 pub imbrolt-laboratory-spec : {M : Type 1} → statement M

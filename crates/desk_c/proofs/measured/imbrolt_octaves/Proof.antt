@@ -28,7 +28,7 @@ returns c =
     let g = c .before .give-set in
     let t = c .before .before .octaves in
     given (intakeAnswer (t .result) 5) (octavesAnswer (a .values .now) (a .marks)) (g .result) (a .out .now) (g .last .0)
-    (ap (λ (i : Intake). intakeAnswer i 5) (t .ensures ∙ ap octavesOf (c .before .before .before .set-from .ensures))) (g .ensures)
+    (ap (λ (i : Intake). intakeAnswer i 5) (t .ensures .1 ∙ ap octavesOf (c .before .before .before .set-from .ensures))) (g .ensures)
 
 pub imbrolt-octaves-spec : {M : Type 1} → statement M
 imbrolt-octaves-spec =

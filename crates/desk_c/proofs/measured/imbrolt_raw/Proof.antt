@@ -22,7 +22,7 @@ returns c =
     let a = c .before .before .before .before .args in
     let g = c .before .give-taken in
     let t = c .before .before .standardized in
-    given (takenAnswer (t .result)) _ (g .result) (a .out .now) (g .last .0) (ap takenAnswer (t .ensures)) (g .ensures)
+    given (takenAnswer (t .result)) _ (g .result) (a .out .now) (g .last .0) (t .ensures) (g .ensures)
 
 pub imbrolt-raw-spec : {M : Type 1} → statement M
 imbrolt-raw-spec =

@@ -32,7 +32,7 @@ returns c =
     let t = c .before .before .specimens in
     given (intakeAnswer (t .result) 16) (specimensAnswer (a .marks .now) (a .values .now)) (g .result) (a .out .now) (g .last .0)
     (ap (λ (i : Intake). intakeAnswer i 16)
-    (t .ensures ∙ ap (λ (l : List Reading). specimensOf l (length (a .values .now))) (c .before .before .before .readings-from .ensures)))
+    (t .ensures .1 ∙ ap (λ (l : List Reading). specimensOf l (length (a .values .now))) (c .before .before .before .readings-from .ensures)))
     (g .ensures)
 
 pub imbrolt-specimens-spec : {M : Type 1} → statement M

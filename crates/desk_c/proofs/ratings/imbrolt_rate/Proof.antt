@@ -1,14 +1,13 @@
 -- `desk_c::ratings::imbrolt_rate` meets its contract: the kind of the number, then the rating. Assumes nothing.
 use borrow.Author.Needs.{needs}
-use mathlib.Core.Path.{sym, _∙_, ap, subst}
+use mathlib.Core.Path.{sym, _∙_, ap}
 use Rattle.rating.specs.Sheets.{ratedOf, ratedAnswer}
 use Rattle.door.specs.Kinds.{kindOf}
 use Rattle.door.specs.Lists.{setFrom}
-use Rattle.door.specs.Given.{Fitting}
 use Rattle.door.proofs.Gives.{given, refuses}
 use Rattle.desk_c.specs.Ratings.{rateAnswer}
 use Rattle.desk_c.proofs.Named.{by-none, by-one}
-use Rattle.desk_c.proofs.Fits.{rated-fits}
+use Rattle.desk_c.proofs.Fits.{rate-fits}
 use Rattle.desk_c.proofs.ratings.imbrolt_rate.Statement.{statement}
 use Rattle.desk_c.proofs.ratings.imbrolt_rate.Tie as tie
 
@@ -29,7 +28,7 @@ rate-requires c κs = search needs
 
 give-rated-requires : tie.Need-give-rated-requires
 give-rated-requires c κs =
-    subst Fitting (sym (c .rate .ensures)) (rated-fits (c .before .before .before .before .kind .given .0 .0) (c .before .set-from .result))
+    rate-fits (c .before .before .before .before .kind .given .0 .0) (c .before .set-from .result) (c .rate .result) (c .rate .ensures)
 
 returns : tie.Need-returns
 unfolding rateAnswer
@@ -49,7 +48,7 @@ returns-2 c =
     let t = c .before .before .rate in
     let g = c .before .give-rated in
     given (ratedAnswer (t .result)) (rateAnswer (a .kind) (a .values .now) (a .marks)) (g .result) (a .out .now) (g .last .0)
-    (ap ratedAnswer (t .ensures ∙ ap (ratedOf (w .0 .0)) (c .before .before .before .set-from .ensures))
+    (t .ensures ∙ ap ratedAnswer (ap (ratedOf (w .0 .0)) (c .before .before .before .set-from .ensures))
     ∙ by-one (kindOf (a .kind)) (λ k. ratedAnswer (ratedOf k (setFrom (a .values .now) (a .marks)))) (w .0 .0)
     (sym (c .before .before .before .before .before .before .before .before .kind-of .ensures) ∙ w .1))
     (g .ensures)

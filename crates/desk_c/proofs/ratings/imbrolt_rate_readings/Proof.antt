@@ -1,6 +1,6 @@
 -- `desk_c::ratings::imbrolt_rate_readings` meets its contract: the kind of the number, then the rating. Assumes nothing.
 use borrow.Author.Needs.{needs}
-use mathlib.Core.Path.{sym, _∙_, ap, subst}
+use mathlib.Core.Path.{sym, _∙_, ap}
 use mathlib.Core.List.{List}
 use lib.ListN.{length}
 use Rattle.quantity.specs.declared.quantities.Reading.{Reading}
@@ -8,7 +8,6 @@ use Rattle.desk.specs.Calls.{readingsRated}
 use Rattle.door.specs.Kinds.{kindOf}
 use Rattle.door.specs.Lists.{readingsFrom}
 use Rattle.rating.specs.Sheets.{ratedAnswer}
-use Rattle.door.specs.Given.{Fitting}
 use Rattle.door.proofs.Gives.{given, refuses}
 use Rattle.desk_c.specs.Ratings.{readingsAnswer}
 use Rattle.desk_c.proofs.Named.{by-none, by-one}
@@ -33,9 +32,9 @@ rate-readings-requires c κs = search needs
 
 give-rated-requires : tie.Need-give-rated-requires
 give-rated-requires c κs =
-    subst Fitting (sym (c .rate-readings .ensures))
-    (readings-fit (c .before .before .before .before .kind .given .0 .0) (c .before .readings-from .result)
-    (length (c .before .before .before .before .before .before .before .before .before .args .values .now)))
+    readings-fit (c .before .before .before .before .kind .given .0 .0) (c .before .readings-from .result)
+    (length (c .before .before .before .before .before .before .before .before .before .args .values .now))
+    (c .rate-readings .result) (c .rate-readings .ensures)
 
 returns : tie.Need-returns
 unfolding readingsAnswer
@@ -56,8 +55,8 @@ returns-2 c =
     let t = c .before .before .rate-readings in
     let g = c .before .give-rated in
     given (ratedAnswer (t .result)) (readingsAnswer (a .kind) (a .marks .now) (a .values .now)) (g .result) (a .out .now) (g .last .0)
-    (ap ratedAnswer
-    (t .ensures ∙ ap (λ (l : List Reading). readingsRated (w .0 .0) l (length (a .values .now))) (c .before .before .before .readings-from .ensures))
+    (t .ensures
+    ∙ ap ratedAnswer (ap (λ (l : List Reading). readingsRated (w .0 .0) l (length (a .values .now))) (c .before .before .before .readings-from .ensures))
     ∙ by-one (kindOf (a .kind)) (λ k. ratedAnswer (readingsRated k (readingsFrom (a .marks .now) (a .values .now)) (length (a .values .now))))
     (w .0 .0) (sym (c .before .before .before .before .before .before .before .before .kind-of .ensures) ∙ w .1))
     (g .ensures)

@@ -26,7 +26,7 @@ returns c =
     let g = c .before .give-taken in
     let t = c .before .before .take-reading in
     given (takenAnswer (t .result)) (readingAnswer (a .mark) (a .value)) (g .result) (a .out .now) (g .last .0)
-    (ap takenAnswer (t .ensures ∙ ap takenOf (c .before .before .before .reading-from .ensures))) (g .ensures)
+    (t .ensures ∙ ap takenAnswer (ap takenOf (c .before .before .before .reading-from .ensures))) (g .ensures)
 
 pub imbrolt-reading-spec : {M : Type 1} → statement M
 imbrolt-reading-spec =
