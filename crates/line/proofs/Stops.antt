@@ -29,13 +29,20 @@ pub record Waiting (s : List ℕ) (skip last : Bool) : Type 0 where
   pub no-feed : feedIn s ≡ 0
   pub short : length s < 512
 
--- why a call stops: nothing is left; or no whole line is; or one is, and whatever follows the part, its answer has no room
+-- a line, and no room for its answer behind what was written
+pub record Full (s : List ℕ) (room wrote : ℕ) : Type 0 where
+  pub line : List ℕ
+  pub later : List (List ℕ)
+  pub lines : linesOf s ≡ line ∷ later
+  pub over : room < wrote + length (answerOf line)
+
+-- Why a call stops, each time one of three: nothing is left; no whole line is left; or one is, and whatever follows the part, its
+-- answer has no room.
 pub data Stop (s : List ℕ) (room : ℕ) (last : Bool) (b : Block) : Type 0 where
   all-used : b .used ≡ length s → Stop s room last b
   no-line : b .used < length s → Waiting (drop (b .used) s) (b .skipping) last → Stop s room last b
   no-room : b .used < length s → (Waiting (drop (b .used) s) (b .skipping) last → ⊥) → b .skipping ≡ false
-      → ((F : List ℕ) → (last ≡ true → F ≡ []) → (l : List ℕ) × (ls : List (List ℕ))
-      × (linesOf (drop (b .used) s ++ F) ≡ l ∷ ls) × (room < length (b .text) + length (answerOf l)))
+      → ((F : List ℕ) → (last ≡ true → F ≡ []) → Full (drop (b .used) s ++ F) room (length (b .text)))
       → Stop s room last b
 
 -- ---- a piece stays where no whole line is, and nowhere else
@@ -113,12 +120,12 @@ module _ (s : List ℕ) (at : ℕ) (last : Bool) (some : at < length s) where
         go false false p q z =
             let more = eqb-false (piece .next) at p in
             Stop.no-room some (λ w. more (waits-still w)) refl
-            (λ F e. let f = piece-first s at F last some e more in (
-              f .line,
-              linesOf (f .rest),
-              f .lines,
-              omega (arith, leb-false (length (replyText s (replyAt s at))) (room - length text) q, ap length (f .answer)),
-            ))
+            (λ F e. let f = piece-first s at F last some e more in record {
+              line = f .line;
+              later = linesOf (f .rest);
+              lines = f .lines;
+              over = omega (arith, leb-false (length (replyText s (replyAt s at))) (room - length text) q, ap length (f .answer));
+            })
 
 -- ---- a block
 from-stops : (n : ℕ) (s : List ℕ) (room at : ℕ) (text : List ℕ) (skip last : Bool) → at ≤ length s → length s ≤ at + n
@@ -200,7 +207,7 @@ gets-on s room wide some skip last e = stopped (subst (Stop s room last) (none-u
     stopped : Stop s room last (record { used = 0; text = []; skipping = skip }) → Waiting s skip last
     stopped (Stop.all-used f) = absurd (omega arith)
     stopped (Stop.no-line h w) = w
-    stopped (Stop.no-room h w f left) = let l = left [] (λ q. refl) in absurd (omega (arith, answer-short (l .0), l .3))
+    stopped (Stop.no-room h w f left) = let l = left [] (λ q. refl) in absurd (omega (arith, answer-short (l .line), l .over))
 
 -- ---- one outcome
 pub one-outcome : {block : Block} {input before : List ℕ} {r r' : Progress} {after after' : List ℕ}
