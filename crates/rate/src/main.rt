@@ -43,6 +43,7 @@ fn started() -> State
     }
 }
 
+// A run that is over: at the end of its input, or because a read or a write failed.
 fn stopped(failed: bool) -> State
     ensures { λ r. ⌜ Waits r 0 ⌝ }
     ensures { λ r. ⌜ (r .on ≡ false) × (r .failed ≡ failed) ⌝ }
