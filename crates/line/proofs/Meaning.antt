@@ -5,8 +5,8 @@ use mathlib.Core.Bool.{Bool, true, false, cond}
 use mathlib.Core.List.{List, [], _∷_, _++_, append-assoc, append-nil}
 use Prim.Native.Nat.{ℕ, zero, suc, _+_, _-_, _≤_, _<_}
 use native.Mathlib.Omega.{arith}
-use borrow.Author.Tests.{le-leb, leb-true, ltb-true, ltb-false, eqb-true, eqb-false}
-use lib.Dec.{leb, ltb, eqb}
+use borrow.Author.Tests.{le-leb, leb-true}
+use lib.Dec.{leb}
 use lib.ListN.{length, take, drop, length-drop, take-append-drop}
 use lib.Seq.{drop-drop, length-take-le, drop-length}
 use Rattle.rating.specs.declared.kinds.Kind.{Kind}
@@ -24,14 +24,14 @@ use Rattle.request.specs.Reading.Asked.{asked}
 use Rattle.request.specs.Reading.Request.{request}
 use Rattle.reply.specs.Answers.{judged, answerTo, answerOf, noReply, replyTo, replyAt, replyText}
 use Rattle.line.specs.Answers.{linesOf, answersTo, answersOf}
-use Rattle.line.specs.Blocks.{feedIn, movedBy, feedAfter, feedPiece, pieceAt, Step, skipBy, stepAt, Block, blockFrom, blockOf, afterFeed, answersFrom, Run}
+use Rattle.line.specs.Blocks.{feedIn, movedBy, Step, stepAt, Block, blockOf, afterFeed, answersFrom, Run}
 use Rattle.line.specs.Blocks.Run.{done, read, part, end}
 use Rattle.request.proofs.Stands.{Stands, taken}
 use Rattle.request.proofs.Wholes.{RequestAt, RequestGood, request-ok, request-here, part-stands, text-length, IsText, text-of, means}
 use Rattle.reply.proofs.Replies.{reply-none}
 use Rattle.line.proofs.Placing.{reply-text}
-use Rattle.line.proofs.Turns.{feed-most}
-use Rattle.line.proofs.Runs.{step-ahead, block-out, block-still, block-on}
+use Rattle.line.proofs.Turns.{feed-most, pieceOf, Found, found, Came, came}
+use Rattle.line.proofs.Runs.{by-turns}
 use Rattle.line.proofs.Feeds.{feeds, feeds-join, decimal-feeds, kind-feeds, key-feeds, minus-feeds, Plain, line-feeds, feed-before, feed-behind, request-end, lines-first, lines-last, lines-begun, after-none, after-first, restBy}
 
 -- ---- a line that is no request, and one that is
@@ -137,19 +137,6 @@ module _ (s : List ℕ) (at : ℕ) (F : List ℕ) where
   abbrev Means : Bool → List ℕ → Bool → ℕ → Type 0
   Means skip text skip' next = answersFrom skip (drop at s ++ F) ≡ text ++ answersFrom skip' (drop next s ++ F)
 
-  skip-means : at ≤ length s → Means true (skipBy (length s) (feedAfter s at) .text) (skipBy (length s) (feedAfter s at) .skipping) (skipBy (length s) (feedAfter s at) .next)
-  unfolding feedAfter
-  skip-means h = go (feedIn (drop at s)) refl
-    where
-      by-next : (w : ℕ) → feedIn (drop at s) ≡ suc w → (n : ℕ) → at + suc w ≡ n → Means true (skipBy (length s) n .text) (skipBy (length s) n .skipping) (skipBy (length s) n .next)
-      by-next w f zero e = absurd (omega arith)
-      by-next w f (suc n) e =
-          ap answersOf (after-first (drop at s) F w f ∙ ap (λ (l : List ℕ). l ++ F) (feed-drop w) ∙ ap (λ (k : ℕ). drop k s ++ F) e)
-
-      go : (n : ℕ) → feedIn (drop at s) ≡ n → Means true (skipBy (length s) (movedBy at n) .text) (skipBy (length s) (movedBy at n) .skipping) (skipBy (length s) (movedBy at n) .next)
-      go zero f = ap answersOf (after-none (drop at s) F f ∙ ap (λ (l : List ℕ). afterFeed (l ++ F)) (sym (drop-length s)))
-      go (suc w) f = by-next w f (at + suc w) refl
-
   -- the first line of what is left, with its answer, and what stands behind it
   pub record First (text : List ℕ) (p : Piece) : Type 0 where
     pub line : List ℕ
@@ -234,96 +221,52 @@ module _ (s : List ℕ) (at : ℕ) (F : List ℕ) where
       }
 
   -- the next piece
-  pub piece-first : (last : Bool) → at < length s → (last ≡ true → F ≡ []) → (pieceAt s at last (replyAt s at .next) .next ≡ at → ⊥)
-      → First (replyText s (replyAt s at)) (pieceAt s at last (replyAt s at .next))
-  unfolding pieceAt feedAfter
-  piece-first last h e = by-reply (replyAt s at .next) refl
+  pub piece-first : (last : Bool) → at < length s → (last ≡ true → F ≡ []) → (pieceOf s at last .next ≡ at → ⊥)
+      → First (replyText s (replyAt s at)) (pieceOf s at last)
+  piece-first last h e = go (found s at last)
     where
-      Told : Piece → Type 0
-      Told p = (p .next ≡ at → ⊥) → First noRequestText p
+      no-reply : {p : Piece} → replyAt s at .next ≡ 0 → First noRequestText p → First (replyText s (replyAt s at)) p
+      no-reply {p = p} z f = subst (λ (x : List ℕ). First x p) (sym (reply-none s (replyAt s at) z)) f
 
-      by-rest : (t u : Bool) → leb (at + 512) (length s) ≡ t → last ≡ u → feedIn (drop at s) ≡ 0
-          → Told (cond t (record { next = length s; skipping = true }) (cond u (record { next = length s; skipping = false }) (record { next = at; skipping = false })))
-      by-rest true u p q f n = long-first f (omega (arith, leb-true (at + 512) (length s) p, length-drop at s))
-      by-rest false true p q f n = last-first (e q) f h
-      by-rest false false p q f n = absurd (n refl)
-
-      by-feed : replyAt s at .next ≡ 0 → (n : ℕ) → feedIn (drop at s) ≡ n → Told (feedPiece at (length s) (movedBy at n) last)
-      by-feed z zero f = by-rest (leb (at + 512) (length s)) last refl refl f
-      by-feed z (suc w) f = by-next (at + suc w) refl
-        where
-          by-next : (k : ℕ) → at + suc w ≡ k → Told (feedPiece at (length s) k last)
-          by-next zero q n = absurd (omega arith)
-          by-next (suc k) q n = subst (λ (j : ℕ). First noRequestText (record { next = j; skipping = false })) q (none-first (omega arith) z w f)
-
-      by-reply : (n : ℕ) → replyAt s at .next ≡ n → (pieceAt s at last n .next ≡ at → ⊥) → First (replyText s (replyAt s at)) (pieceAt s at last n)
-      by-reply zero p n =
-          subst (λ (x : List ℕ). First x (pieceAt s at last 0)) (sym (reply-none s (replyAt s at) p)) (by-feed p (feedIn (drop at s)) refl n)
-      by-reply (suc k) p n =
-          subst (λ (j : ℕ). First (replyText s (replyAt s at)) (record { next = j; skipping = false })) p
-          (reply-first (λ z. omega arith))
+      go : {p : Piece} → Found s at last p → (p .next ≡ at → ⊥) → First (replyText s (replyAt s at)) p
+      go (Found.request z) n = reply-first z
+      go (Found.line w z f) n = no-reply z (none-first (omega arith) z w f)
+      go (Found.long z f l) n = no-reply z (long-first f (omega (arith, length-drop at s)))
+      go (Found.rest z f l) n = no-reply z (last-first (e l) f h)
+      go (Found.none f l q) n = absurd (n refl)
 
   -- a turn
-  pub step-means : (room : ℕ) (skip last : Bool) → at < length s → (last ≡ true → F ≡ [])
+  step-means : (room : ℕ) (skip last : Bool) → at < length s → (last ≡ true → F ≡ [])
       → Means skip (stepAt s at room skip last .text) (stepAt s at room skip last .skipping) (stepAt s at room skip last .next)
-  unfolding stepAt
-  step-means room true last h e = skip-means (omega arith)
-  step-means room false last h e = go (eqb (piece .next) at) (leb (length (replyText s (replyAt s at))) room) refl
+  step-means room skip last h e = go (came s at room skip last)
     where
-      piece : Piece
-      piece = pieceAt s at last (replyAt s at .next)
-
-      abbrev-step : Step → Type 0
-      abbrev-step x = Means false (x .text) (x .skipping) (x .next)
-
-      still : Step
-      still = record { next = at; text = []; skipping = false }
-
-      told : Step
-      told = record { next = piece .next; text = replyText s (replyAt s at); skipping = piece .skipping }
-
-      go : (t u : Bool) → eqb (piece .next) at ≡ t → abbrev-step (cond t still (cond u told still))
-      go true u q = refl
-      go false true q =
-          let f = piece-first last h e (eqb-false (piece .next) at q) in
+      go : {b : Bool} {x : Step} → Came s at room last b x → Means b (x .text) (x .skipping) (x .next)
+      go (Came.past f) = ap answersOf (after-none (drop at s) F f ∙ ap afterFeed (at-end F))
+      go (Came.fed w f) = ap answersOf (after-first (drop at s) F w f ∙ ap (λ (l : List ℕ). l ++ F) (feed-drop w))
+      go (Came.none z) = refl
+      go (Came.told z) =
+          let f = piece-first last h e z in
           first-answered (drop at s ++ F) (f .line) (f .rest) (replyText s (replyAt s at)) (f .lines) (f .answer)
           ∙ ap (λ (x : List ℕ). replyText s (replyAt s at) ++ x) (f .behind)
-      go false false q = refl
+      go (Came.full z l) = refl
 
 -- ---- a block, whatever follows the part
-from-means : (n : ℕ) (s : List ℕ) (room at : ℕ) (text : List ℕ) (skip last : Bool) (F : List ℕ) → at ≤ length s → (last ≡ true → F ≡ [])
-    → text ++ answersFrom skip (drop at s ++ F)
-    ≡ blockFrom n s room at text skip last .text ++ answersFrom (blockFrom n s room at text skip last .skipping) (drop (blockFrom n s room at text skip last .used) s ++ F)
-unfolding blockFrom
-from-means zero s room at text skip last F h e = refl
-from-means (suc n) s room at text skip last F h e =
-    go (ltb at (length s)) (eqb (stepAt s at (room - length text) skip last .next) at) refl refl
-    (λ h'. from-means n s room (step .next) (text ++ step .text) (step .skipping) last F h' e)
-  where
-    step : Step
-    step = stepAt s at (room - length text) skip last
-
-    Whole : Block → Type 0
-    Whole b = text ++ answersFrom skip (drop at s ++ F) ≡ b .text ++ answersFrom (b .skipping) (drop (b .used) s ++ F)
-
-    Rest : Block → Type 0
-    Rest b = (text ++ step .text) ++ answersFrom (step .skipping) (drop (step .next) s ++ F) ≡ b .text ++ answersFrom (b .skipping) (drop (b .used) s ++ F)
-
-    go : (t u : Bool) → ltb at (length s) ≡ t → eqb (stepAt s at (room - length text) skip last .next) at ≡ u
-        → (step .next ≤ length s → Rest (blockFrom n s room (step .next) (text ++ step .text) (step .skipping) last))
-        → Whole (blockFrom (suc n) s room at text skip last)
-    go false u p q r = subst Whole (sym (block-out s room at text skip last (suc n) (ltb-false at (length s) p))) refl
-    go true true p q r = subst Whole (sym (block-still s room at text skip last (suc n) (eqb-true (step .next) at q))) refl
-    go true false p q r =
-        subst Whole (sym (block-on s room at text skip last n (ltb-true at (length s) p) (eqb-false (step .next) at q)))
-        (ap (λ (l : List ℕ). text ++ l) (step-means s at F (room - length text) skip last (ltb-true at (length s) p) e)
-        ∙ sym (append-assoc text (step .text) (answersFrom (step .skipping) (drop (step .next) s ++ F)))
-        ∙ r (step-ahead s at (room - length text) skip last h .1))
-
-pub block-means : (s : List ℕ) (room : ℕ) (skip last : Bool) (F : List ℕ) → (last ≡ true → F ≡ [])
+block-means : (s : List ℕ) (room : ℕ) (skip last : Bool) (F : List ℕ) → (last ≡ true → F ≡ [])
     → answersFrom skip (s ++ F) ≡ blockOf s room skip last .text ++ answersFrom (blockOf s room skip last .skipping) (drop (blockOf s room skip last .used) s ++ F)
 unfolding blockOf
-block-means s room skip last F e = from-means (length s) s room 0 [] skip last F (omega arith) e
+block-means s room skip last F e = by-turns s room last Whole (λ at text skip h. refl) (λ at text skip h z. refl) on (length s) 0 [] skip (omega arith) (omega arith)
+  where
+    Whole : ℕ → List ℕ → Bool → Block → Type 0
+    Whole at text skip b = text ++ answersFrom skip (drop at s ++ F) ≡ b .text ++ answersFrom (b .skipping) (drop (b .used) s ++ F)
+
+    on : (at : ℕ) (text : List ℕ) (skip : Bool) (b : Block) → at < length s → at < stepAt s at (room - length text) skip last .next
+        → Whole (stepAt s at (room - length text) skip last .next) (text ++ stepAt s at (room - length text) skip last .text) (stepAt s at (room - length text) skip last .skipping) b
+        → Whole at text skip b
+    on at text skip b h a r =
+        let step : Step = stepAt s at (room - length text) skip last in
+        ap (λ (l : List ℕ). text ++ l) (step-means s at F (room - length text) skip last h e)
+        ∙ sym (append-assoc text (step .text) (answersFrom (step .skipping) (drop (step .next) s ++ F)))
+        ∙ r
 
 -- ---- a run: "for every way of cutting an input into blocks .. the outputs joined equal `answersOf` of the whole input"
 run-means : {pending : List ℕ} {skip : Bool} {future out : List ℕ} → Run pending skip future out → out ≡ answersFrom skip (pending ++ future)

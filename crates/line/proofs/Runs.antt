@@ -1,71 +1,41 @@
 -- The loop of the block call: what was answered so far, and what the rest of the part gives, are the block. Assumes nothing.
 use mathlib.Core.Path.{_≡_, refl, sym, _∙_, ap, subst}
-use mathlib.Core.Bool.{Bool, true, false, cond}
+use mathlib.Core.Bool.{Bool, true, false}
 use mathlib.Core.List.{List, [], _++_, append-assoc}
 use Prim.Native.Nat.{ℕ, zero, suc, _+_, _-_, _≤_, _<_}
 use native.Mathlib.Omega.{arith}
-use borrow.Author.Tests.{lt-ltb, le-ltb, eq-eqb, ne-eqb, eqb-false}
-use lib.Dec.{leb, ltb, eqb}
-use lib.ListN.{length, take, drop, length-append}
+use borrow.Author.Tests.{lt-ltb, le-ltb, eq-eqb, ne-eqb, eqb-false, ltb-true, ltb-false, eqb-true}
+use lib.Dec.{ltb, eqb}
+use lib.ListN.{length, take, drop, length-append, length-drop}
 use lib.Seq.{take-at, drop-append-add, drop-drop}
-use Rattle.line.specs.declared.blocks.Piece.{Piece}
 use Rattle.line.specs.declared.blocks.Turn.{Turn}
 use Rattle.answer.specs.Texts.{front}
-use Rattle.reply.specs.Answers.{replyAt, replyText}
-use Rattle.line.specs.Blocks.{feedAfter, pieceAt, Step, skipBy, stepAt, Block, blockFrom, blockOf, Turned, Answered}
+use Rattle.line.specs.Blocks.{Step, stepAt, Block, blockFrom, blockOf, Turned, Answered}
 use Rattle.answer.proofs.Fronts.{front-length}
-use Rattle.line.proofs.Turns.{feed-bounds, piece-ahead, none-placed}
+use Rattle.line.proofs.Turns.{piece-ahead, none-placed, feed-most, Came, came}
 
 -- a step lies ahead, and within
-pub step-ahead : (s : List ℕ) (at room : ℕ) (skipping last : Bool) → at ≤ length s
+step-ahead : (s : List ℕ) (at room : ℕ) (skipping last : Bool) → at ≤ length s
     → (at ≤ stepAt s at room skipping last .next) × (stepAt s at room skipping last .next ≤ length s)
-unfolding stepAt
-step-ahead s at room true last h = go (feedAfter s at) refl
+step-ahead s at room skipping last h = go (came s at room skipping last)
   where
-    go : (n : ℕ) → feedAfter s at ≡ n → (at ≤ skipBy (length s) n .next) × (skipBy (length s) n .next ≤ length s)
-    go zero e = (h, omega arith)
-    go (suc n) e = (omega (arith, feed-bounds s at n e), feed-bounds s at n e .1)
-step-ahead s at room false last h =
-    go (eqb (piece .next) at) (leb (length (replyText s (replyAt s at))) room) (piece-ahead s at last h)
-  where
-    piece : Piece
-    piece = pieceAt s at last (replyAt s at .next)
-
-    still : Step
-    still = record { next = at; text = []; skipping = false }
-
-    told : Step
-    told = record { next = piece .next; text = replyText s (replyAt s at); skipping = piece .skipping }
-
-    go : (t u : Bool) → (at ≤ piece .next) × (piece .next ≤ length s)
-        → (at ≤ cond t still (cond u told still) .next) × (cond t still (cond u told still) .next ≤ length s)
-    go true u g = (omega arith, h)
-    go false true g = g
-    go false false g = (omega arith, h)
+    go : {b : Bool} {x : Step} → Came s at room last b x → (at ≤ x .next) × (x .next ≤ length s)
+    go (Came.past f) = (h, omega arith)
+    go (Came.fed w f) = (omega arith, omega (arith, feed-most (drop at s), length-drop at s))
+    go (Came.none z) = (omega arith, h)
+    go (Came.told z) = piece-ahead s at last h
+    go (Came.full z l) = (omega arith, h)
 
 -- a step that takes nothing writes nothing
 still-text : (s : List ℕ) (at room : ℕ) (skipping last : Bool) → stepAt s at room skipping last .next ≡ at → stepAt s at room skipping last .text ≡ []
-unfolding stepAt
-still-text s at room true last e = go (feedAfter s at)
+still-text s at room skipping last = go (came s at room skipping last)
   where
-    go : (n : ℕ) → skipBy (length s) n .text ≡ []
-    go zero = refl
-    go (suc n) = refl
-still-text s at room false last e = go (eqb (piece .next) at) (leb (length (replyText s (replyAt s at))) room) refl e
-  where
-    piece : Piece
-    piece = pieceAt s at last (replyAt s at .next)
-
-    still : Step
-    still = record { next = at; text = []; skipping = false }
-
-    told : Step
-    told = record { next = piece .next; text = replyText s (replyAt s at); skipping = piece .skipping }
-
-    go : (t u : Bool) → eqb (piece .next) at ≡ t → cond t still (cond u told still) .next ≡ at → cond t still (cond u told still) .text ≡ []
-    go true u f e = refl
-    go false true f e = absurd (eqb-false (piece .next) at f e)
-    go false false f e = refl
+    go : {b : Bool} {x : Step} → Came s at room last b x → x .next ≡ at → x .text ≡ []
+    go (Came.past f) e = refl
+    go (Came.fed w f) e = refl
+    go (Came.none z) e = refl
+    go (Came.told z) e = absurd (z e)
+    go (Came.full z l) e = refl
 
 module _ (s : List ℕ) (room at : ℕ) (text : List ℕ) (skipping last : Bool) where
   abbrev here : Block
@@ -74,12 +44,12 @@ module _ (s : List ℕ) (room at : ℕ) (text : List ℕ) (skipping last : Bool)
   abbrev step : Step
   step = stepAt s at (room - length text) skipping last
 
-  pub block-out : (n : ℕ) → length s ≤ at → blockFrom n s room at text skipping last ≡ here
+  block-out : (n : ℕ) → length s ≤ at → blockFrom n s room at text skipping last ≡ here
   unfolding blockFrom
   block-out zero h = refl
   block-out (suc n) h = rw (le-ltb at (length s) h, blockFrom)
 
-  pub block-still : (n : ℕ) → step .next ≡ at → blockFrom n s room at text skipping last ≡ here
+  block-still : (n : ℕ) → step .next ≡ at → blockFrom n s room at text skipping last ≡ here
   unfolding blockFrom
   block-still zero e = refl
   block-still (suc n) e = go (ltb at (length s)) refl
@@ -88,10 +58,45 @@ module _ (s : List ℕ) (room at : ℕ) (text : List ℕ) (skipping last : Bool)
       go true f = rw (f, eq-eqb (step .next) at e, blockFrom)
       go false f = rw (f, blockFrom)
 
-  pub block-on : (n : ℕ) → at < length s → (step .next ≡ at → ⊥)
+  block-on : (n : ℕ) → at < length s → (step .next ≡ at → ⊥)
       → blockFrom (suc n) s room at text skipping last ≡ blockFrom n s room (step .next) (text ++ step .text) (step .skipping) last
   unfolding blockFrom
   block-on n h f = rw (lt-ltb at (length s) h, ne-eqb (step .next) at f, blockFrom)
+
+-- What holds of a block where the turns stop holds of the whole block, if each turn that goes on carries it back. Each takes a byte
+-- at least, so that as many turns as there are bytes do not run out.
+module _ (s : List ℕ) (room : ℕ) (last : Bool) (P : ℕ → List ℕ → Bool → Block → Type 0)
+    (out : (at : ℕ) (text : List ℕ) (skip : Bool) → at ≡ length s → P at text skip (record { used = at; text = text; skipping = skip }))
+    (still : (at : ℕ) (text : List ℕ) (skip : Bool) → at < length s → stepAt s at (room - length text) skip last .next ≡ at
+    → P at text skip (record { used = at; text = text; skipping = skip }))
+    (on : (at : ℕ) (text : List ℕ) (skip : Bool) (b : Block) → at < length s → at < stepAt s at (room - length text) skip last .next
+    → P (stepAt s at (room - length text) skip last .next) (text ++ stepAt s at (room - length text) skip last .text) (stepAt s at (room - length text) skip last .skipping) b
+    → P at text skip b) where
+  pub by-turns : (n at : ℕ) (text : List ℕ) (skip : Bool) → at ≤ length s → length s ≤ at + n → P at text skip (blockFrom n s room at text skip last)
+  unfolding blockFrom
+  by-turns zero at text skip h k = out at text skip (omega arith)
+  by-turns (suc n) at text skip h k =
+      go (ltb at (length s)) (eqb (stepAt s at (room - length text) skip last .next) at) refl refl
+      (λ h' k'. by-turns n (step .next) (text ++ step .text) (step .skipping) h' k')
+    where
+      step : Step
+      step = stepAt s at (room - length text) skip last
+
+      go : (t u : Bool) → ltb at (length s) ≡ t → eqb (step .next) at ≡ u
+          → (step .next ≤ length s → length s ≤ step .next + n → P (step .next) (text ++ step .text) (step .skipping) (blockFrom n s room (step .next) (text ++ step .text) (step .skipping) last))
+          → P at text skip (blockFrom (suc n) s room at text skip last)
+      go false u p q r =
+          subst (P at text skip) (sym (block-out s room at text skip last (suc n) (ltb-false at (length s) p)))
+          (out at text skip (omega (arith, ltb-false at (length s) p)))
+      go true true p q r =
+          subst (P at text skip) (sym (block-still s room at text skip last (suc n) (eqb-true (step .next) at q)))
+          (still at text skip (ltb-true at (length s) p) (eqb-true (step .next) at q))
+      go true false p q r =
+          let b = step-ahead s at (room - length text) skip last h in
+          let f = eqb-false (step .next) at q in
+          let ahead : at < step .next = omega arith in
+          subst (P at text skip) (sym (block-on s room at text skip last n (ltb-true at (length s) p) f))
+          (on at text skip (blockFrom n s room (step .next) (text ++ step .text) (step .skipping) last) (ltb-true at (length s) p) ahead (r (b .1) (omega arith)))
 
 -- what the loop holds
 pub record Going (s l : List ℕ) (skip₀ last : Bool) (used wrote : ℕ) (skip : Bool) (out : List ℕ) : Type 0 where

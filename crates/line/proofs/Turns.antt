@@ -4,7 +4,7 @@ use mathlib.Core.Bool.{Bool, true, false, cond}
 use mathlib.Core.List.{List, [], _∷_, _++_}
 use Prim.Native.Nat.{ℕ, zero, suc, _+_, _-_, _≤_, _<_}
 use native.Mathlib.Omega.{arith}
-use borrow.Author.Tests.{le-leb, lt-leb, leb-true, leb-false, eq-eqb, ne-eqb}
+use borrow.Author.Tests.{le-leb, lt-leb, leb-true, leb-false, eq-eqb, ne-eqb, eqb-true, eqb-false}
 use lib.Dec.{leb, eqb}
 use lib.ListN.{length, take, drop, length-drop, drop-of-length-le, take-append-drop}
 use lib.Seq.{drop-cons}
@@ -64,15 +64,6 @@ feed-most (b ∷ l) = go (eqb b 10) refl (feedIn l) refl (feed-most l)
     go false e zero f h = subst (λ (k : ℕ). k ≤ suc (length l)) (sym (feed-cons b l false e ∙ ap oneMore f)) (omega arith)
     go false e (suc n) f h = subst (λ (k : ℕ). k ≤ suc (length l)) (sym (feed-cons b l false e ∙ ap oneMore f)) (omega arith)
 
--- it lies ahead, and within
-pub feed-bounds : (s : List ℕ) (at e : ℕ) → feedAfter s at ≡ suc e → (at < suc e) × (suc e ≤ length s)
-unfolding feedAfter
-feed-bounds s at e f = go (feedIn (drop at s)) refl f
-  where
-    go : (n : ℕ) → feedIn (drop at s) ≡ n → movedBy at n ≡ suc e → (at < suc e) × (suc e ≤ length s)
-    go zero p q = absurd (omega arith)
-    go (suc n) p q = (omega arith, omega (arith, feed-most (drop at s), length-drop at s))
-
 -- ---- pieces
 module _ (s : List ℕ) (at : ℕ) (last : Bool) (next : ℕ) where
   pub piece-some : (next ≡ 0 → ⊥) → record { next = next; skipping = false } ≡ pieceAt s at last next
@@ -127,27 +118,83 @@ reply-ahead s at = go (requestAt s at) (request-ok s at)
         )
         by-length false z = absurd (z refl)
 
-pub piece-ahead : (s : List ℕ) (at : ℕ) (last : Bool) → at ≤ length s
-    → (at ≤ pieceAt s at last (replyAt s at .next) .next) × (pieceAt s at last (replyAt s at .next) .next ≤ length s)
-unfolding pieceAt
-piece-ahead s at last h = go (replyAt s at .next) (reply-ahead s at)
+-- the next piece, by what stands there
+abbrev pub pieceOf : List ℕ → ℕ → Bool → Piece
+pieceOf s at last = pieceAt s at last (replyAt s at .next)
+
+pub data Found (s : List ℕ) (at : ℕ) (last : Bool) : Piece → Type 0 where
+  request : (replyAt s at .next ≡ 0 → ⊥) → Found s at last (record { next = replyAt s at .next; skipping = false })
+  line : (w : ℕ) → replyAt s at .next ≡ 0 → feedIn (drop at s) ≡ suc w → Found s at last (record { next = at + suc w; skipping = false })
+  long : replyAt s at .next ≡ 0 → feedIn (drop at s) ≡ 0 → at + 512 ≤ length s → Found s at last (record { next = length s; skipping = true })
+  rest : replyAt s at .next ≡ 0 → feedIn (drop at s) ≡ 0 → last ≡ true → Found s at last (record { next = length s; skipping = false })
+  none : feedIn (drop at s) ≡ 0 → length s < at + 512 → last ≡ false → Found s at last (record { next = at; skipping = false })
+
+pub found : (s : List ℕ) (at : ℕ) (last : Bool) → Found s at last (pieceOf s at last)
+unfolding pieceAt feedAfter
+found s at last = by-reply (replyAt s at .next) refl
   where
-    Ahead : Piece → Type 0
-    Ahead p = (at ≤ p .next) × (p .next ≤ length s)
+    by-rest : replyAt s at .next ≡ 0 → feedIn (drop at s) ≡ 0 → (t u : Bool) → leb (at + 512) (length s) ≡ t → last ≡ u
+        → Found s at last (cond t (record { next = length s; skipping = true }) (cond u (record { next = length s; skipping = false }) (record { next = at; skipping = false })))
+    by-rest z f true u p q = Found.long z f (leb-true (at + 512) (length s) p)
+    by-rest z f false true p q = Found.rest z f q
+    by-rest z f false false p q = Found.none f (leb-false (at + 512) (length s) p) q
 
-    rest : (t u : Bool)
-        → Ahead (cond t (record { next = length s; skipping = true }) (cond u (record { next = length s; skipping = false }) (record { next = at; skipping = false })))
-    rest true u = (h, omega arith)
-    rest false true = (h, omega arith)
-    rest false false = (omega arith, h)
+    by-feed : replyAt s at .next ≡ 0 → (n : ℕ) → feedIn (drop at s) ≡ n → Found s at last (feedPiece at (length s) (movedBy at n) last)
+    by-feed z zero f = by-rest z f (leb (at + 512) (length s)) last refl refl
+    by-feed z (suc w) f = by-next (at + suc w) refl
+      where
+        by-next : (k : ℕ) → at + suc w ≡ k → Found s at last (feedPiece at (length s) k last)
+        by-next zero q = absurd (omega arith)
+        by-next (suc k) q = subst (λ (j : ℕ). Found s at last (record { next = j; skipping = false })) q (Found.line w z f)
 
-    by-feed : (n : ℕ) → feedAfter s at ≡ n → Ahead (feedPiece at (length s) n last)
-    by-feed zero e = rest (leb (at + 512) (length s)) last
-    by-feed (suc n) e = (omega (arith, feed-bounds s at n e), feed-bounds s at n e .1)
+    by-reply : (n : ℕ) → replyAt s at .next ≡ n → Found s at last (pieceAt s at last n)
+    by-reply zero e = by-feed e (feedIn (drop at s)) refl
+    by-reply (suc n) e = subst (λ (j : ℕ). Found s at last (record { next = j; skipping = false })) e (Found.request (λ z. omega arith))
 
-    go : (n : ℕ) → ((n ≡ 0 → ⊥) → (at < n) × (n ≤ length s)) → Ahead (pieceAt s at last n)
-    go zero b = by-feed (feedAfter s at) refl
-    go (suc n) b = let w = b (λ z. omega arith) in (omega arith, w .1)
+pub piece-ahead : (s : List ℕ) (at : ℕ) (last : Bool) → at ≤ length s → (at ≤ pieceOf s at last .next) × (pieceOf s at last .next ≤ length s)
+piece-ahead s at last h = go (found s at last)
+  where
+    go : {p : Piece} → Found s at last p → (at ≤ p .next) × (p .next ≤ length s)
+    go (Found.request z) = let b = reply-ahead s at z in (omega arith, b .1)
+    go (Found.line w z f) = (omega arith, omega (arith, feed-most (drop at s), length-drop at s))
+    go (Found.long z f l) = (h, omega arith)
+    go (Found.rest z f l) = (h, omega arith)
+    go (Found.none f l e) = (omega arith, h)
+
+-- a turn, by what it comes to
+pub data Came (s : List ℕ) (at room : ℕ) (last : Bool) : Bool → Step → Type 0 where
+  past : feedIn (drop at s) ≡ 0 → Came s at room last true (record { next = length s; text = []; skipping = true })
+  fed : (w : ℕ) → feedIn (drop at s) ≡ suc w → Came s at room last true (record { next = at + suc w; text = []; skipping = false })
+  none : pieceOf s at last .next ≡ at → Came s at room last false (record { next = at; text = []; skipping = false })
+  told : (pieceOf s at last .next ≡ at → ⊥)
+      → Came s at room last false (record { next = pieceOf s at last .next; text = replyText s (replyAt s at); skipping = pieceOf s at last .skipping })
+  full : (pieceOf s at last .next ≡ at → ⊥) → room < length (replyText s (replyAt s at))
+      → Came s at room last false (record { next = at; text = []; skipping = false })
+
+pub came : (s : List ℕ) (at room : ℕ) (skipping last : Bool) → Came s at room last skipping (stepAt s at room skipping last)
+unfolding stepAt feedAfter
+came s at room true last = go (feedIn (drop at s)) refl
+  where
+    by-next : (w : ℕ) → feedIn (drop at s) ≡ suc w → (k : ℕ) → at + suc w ≡ k → Came s at room last true (skipBy (length s) k)
+    by-next w f zero q = absurd (omega arith)
+    by-next w f (suc k) q = subst (λ (j : ℕ). Came s at room last true (record { next = j; text = []; skipping = false })) q (Came.fed w f)
+
+    go : (n : ℕ) → feedIn (drop at s) ≡ n → Came s at room last true (skipBy (length s) (movedBy at n))
+    go zero f = Came.past f
+    go (suc w) f = by-next w f (at + suc w) refl
+came s at room false last = go (eqb (pieceOf s at last .next) at) (leb (length (replyText s (replyAt s at))) room) refl refl
+  where
+    still : Step
+    still = record { next = at; text = []; skipping = false }
+
+    answer : Step
+    answer = record { next = pieceOf s at last .next; text = replyText s (replyAt s at); skipping = pieceOf s at last .skipping }
+
+    go : (t u : Bool) → eqb (pieceOf s at last .next) at ≡ t → leb (length (replyText s (replyAt s at))) room ≡ u
+        → Came s at room last false (cond t still (cond u answer still))
+    go true u p q = Came.none (eqb-true (pieceOf s at last .next) at p)
+    go false true p q = Came.told (eqb-false (pieceOf s at last .next) at p)
+    go false false p q = Came.full (eqb-false (pieceOf s at last .next) at p) (leb-false (length (replyText s (replyAt s at))) room q)
 
 -- ---- turns
 pub none-placed : (out : List ℕ) (w : ℕ) → out ≡ take w out ++ ([] ++ drop (w + 0) out)
@@ -207,10 +254,10 @@ module _ (s : List ℕ) (at : ℕ) (out : List ℕ) (w : ℕ) (skipping last : B
         (idle out w (record { next = at; wrote = w; skipping = false }) at false room refl)
 
     module _ (z : p .next ≡ at → ⊥) (x : Wrote) (after : List ℕ) (wrote-is : x ≡ wroteOf out w text) (after-is : after ≡ placed out w text) where
-      abbrev told : Step
-      told = record { next = p .next; text = text; skipping = p .skipping }
+      abbrev given : Step
+      given = record { next = p .next; text = text; skipping = p .skipping }
 
-      some : step ≡ cond (leb (length text) (length out - w)) told still
+      some : step ≡ cond (leb (length text) (length out - w)) given still
       some = ask-step ∙ rw (ne-eqb (p .next) at z)
 
       fitting : (t : Bool) → leb (w + length text) (length out) ≡ t → x ≡ cond t (wrote.Bytes (length text)) (wrote.Refused NoRoom)
@@ -231,7 +278,7 @@ module _ (s : List ℕ) (at : ℕ) (out : List ℕ) (w : ℕ) (skipping last : B
           go false h =
               subst (λ (l : List ℕ). Turned step out w (record { next = at; wrote = w; skipping = false }) l) (sym (placing false h))
               (by-step still (record { next = at; wrote = w; skipping = false }) out
-              (some ∙ ap (λ (b : Bool). cond b told still) (lt-leb (length text) (length out - w) (omega (arith, leb-false (w + length text) (length out) h))))
+              (some ∙ ap (λ (b : Bool). cond b given still) (lt-leb (length text) (length out - w) (omega (arith, leb-false (w + length text) (length out) h))))
               (idle out w (record { next = at; wrote = w; skipping = false }) at false room refl))
 
       pub turn-told : (n : ℕ) → x ≡ wrote.Bytes n
@@ -248,7 +295,7 @@ module _ (s : List ℕ) (at : ℕ) (out : List ℕ) (w : ℕ) (skipping last : B
               let q : wrote.Bytes n ≡ wrote.Bytes (length text) = sym f ∙ fitting true h in
               let m : n ≡ length text = cc in (
                 omega arith,
-                by-step told (record { next = p .next; wrote = w + n; skipping = p .skipping }) after
-                    (some ∙ ap (λ (b : Bool). cond b told still) (le-leb (length text) (length out - w) (omega arith)))
+                by-step given (record { next = p .next; wrote = w + n; skipping = p .skipping }) after
+                    (some ∙ ap (λ (b : Bool). cond b given still) (le-leb (length text) (length out - w) (omega arith)))
                     (record { next = refl; wrote-is = ap (λ (k : ℕ). w + k) m; skipping = refl; out = placing true h; fits = fit }),
               )

@@ -1,7 +1,66 @@
--- What the program keeps from turn to turn: the bytes that wait lie within the buffer.
-use Prim.Native.Nat.{ℕ, _≤_}
+-- What the program does with its bytes from turn to turn, as far as it can be said without its input and output.
+use mathlib.Core.Bool.{true, false}
+use mathlib.Core.List.{List, _++_}
+use mathlib.Core.Path.{_≡_}
+use Prim.Native.Nat.{ℕ, _-_, _≤_}
+use lib.Dec.{eqb}
+use lib.ListN.{length, take, drop}
+use Rattle.line.specs.Blocks.{Block, blockOf}
 use Rattle.rate.specs.declared.State.{State}
+use Rattle.rate.specs.declared.Turn.{Turn}
 
+-- the bytes that wait lie within the buffer, from `start` to `end`
 pub record Waits (s : State) (n : ℕ) : Type 0 where
   pub order : s .start ≤ s .end
   pub within : s .end ≤ n
+
+abbrev pub waiting : State → List ℕ → List ℕ
+waiting s buf = take (s .end - s .start) (drop (s .start) buf)
+
+-- what the block call makes of them
+abbrev pub blockAt : State → List ℕ → ℕ → Block
+blockAt s buf room = blockOf (waiting s buf) room (s .skipping) (s .last)
+
+-- the first state: nothing waits
+abbrev pub firstState : State
+firstState = record { start = 0; end = 0; skipping = false; last = false; on = true; failed = false }
+
+-- after a call: what it left waits
+pub record Left (s : State) (buf : List ℕ) (room : ℕ) (r : State) : Type 0 where
+  pub waits : waiting r buf ≡ drop (blockAt s buf room .used) (waiting s buf)
+  pub skipping : r .skipping ≡ blockAt s buf room .skipping
+  pub last : r .last ≡ s .last
+  pub on : r .on ≡ true
+  pub failed : r .failed ≡ false
+
+-- a call, with its answer in front of the output
+pub record Called (s : State) (buf : List ℕ) (room : ℕ) (t : Turn) (out : List ℕ) : Type 0 where
+  pub within : Waits (t .state) (length buf)
+  pub left : Left s buf room (t .state)
+  pub used : t .used ≡ blockAt s buf room .used
+  pub text : take (t .wrote) out ≡ blockAt s buf room .text
+  pub fits : t .wrote ≤ length out
+
+-- after a read: what was read waits behind what waited; nothing was read where the input has ended
+abbrev pub readBehind : State → State → List ℕ → List ℕ
+readBehind s r after = drop (s .end - s .start) (waiting r after)
+
+pub record Read (s : State) (buf : List ℕ) (r : State) (after : List ℕ) : Type 0 where
+  pub waits : waiting r after ≡ waiting s buf ++ readBehind s r after
+  pub last : r .last ≡ eqb (length (readBehind s r after)) 0
+  pub skipping : r .skipping ≡ s .skipping
+  pub on : r .on ≡ true
+  pub failed : r .failed ≡ false
+  pub size : length after ≡ length buf
+
+pub data Refilled (s : State) (buf : List ℕ) (r : State) (after : List ℕ) : Type 0 where
+  read : Read s buf r after → Refilled s buf r after
+  broken : r .on ≡ false → r .failed ≡ true → Refilled s buf r after
+
+-- One step of a run: where the call used something, the run goes on with what it left; where it used nothing, the run ends
+-- with the input, or goes on with what was read. Or a read or a write failed.
+pub data Advanced (s : State) (buf : List ℕ) (room : ℕ) (r : State) (after : List ℕ) : Type 0 where
+  answered : (blockAt s buf room .used ≡ 0 → ⊥) → after ≡ buf → Left s buf room r → Advanced s buf room r after
+  ended : blockAt s buf room .used ≡ 0 → s .last ≡ true → r .on ≡ false → r .failed ≡ false → Advanced s buf room r after
+  read : blockAt s buf room .used ≡ 0 → s .last ≡ false → Read s buf r after → Advanced s buf room r after
+  broken : r .on ≡ false → r .failed ≡ true → Advanced s buf room r after

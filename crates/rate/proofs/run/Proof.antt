@@ -15,8 +15,11 @@ Inv-loop buf₀ out₀ state₀ turns₀ buf out state turns =
 abbrev μ-loop : tie.MeasureT-loop
 μ-loop buf₀ out₀ state₀ turns₀ buf out state turns = turns
 
+started-requires : tie.Need-started-requires Inv-loop μ-loop
+started-requires c κs = search needs
+
 loop-holds : tie.Need-loop-holds Inv-loop μ-loop
-loop-holds c = (refl, refl, record { order = omega arith; within = omega arith })
+loop-holds c = (refl, refl, subst (λ s. Waits s (length (c .before .before .before .args .buf .now))) (sym (c .started .ensures)) (record { order = omega arith; within = omega arith }))
 
 advance-requires : tie.Need-advance-requires Inv-loop μ-loop
 advance-requires c κs =
@@ -33,7 +36,7 @@ loop-again : tie.Need-loop-again Inv-loop μ-loop
 loop-again c =
     let a = c .before .before .before .before .advance in
     let b = c .before .before .before .before .before .before .before .before .before in
-    (a .kept .0 ∙ b .loop .inv .0, a .kept .1 .0 ∙ b .loop .inv .1, subst (Waits (a .result)) (b .loop .inv .0) (a .ensures))
+    (a .kept .0 ∙ b .loop .inv .0, a .kept .1 .0 ∙ b .loop .inv .1, subst (Waits (a .result)) (b .loop .inv .0) (a .ensures .0))
 
 same-length : tie.Need-same-length Inv-loop μ-loop
 same-length c = c .before .before .loop .inv .0
@@ -59,6 +62,7 @@ run-spec =
     (tie.spec
     Inv-loop
     μ-loop
+    started-requires
     loop-holds
     advance-requires
     sub-turns
