@@ -6,3 +6,5 @@ pub mod Weighing
 pub mod Sheeted
 pub mod Rated
 pub mod Theorems
+pub mod Sums
+pub mod Starts
