@@ -6,3 +6,4 @@ pub mod Listing
 pub mod Answers
 pub mod Promise
 pub mod Quick
+pub mod Past

@@ -1,18 +1,22 @@
 -- The mean of three over ℤ is the mean of three naturals counted from one floor: so it lies between the least and the greatest
--- of the three, and the mean of band values is a band value. Assumes nothing.
-use mathlib.Core.Path.{_≡_, refl, sym, ap, ap₂}
+-- of the three, its v is the paper's number, and the mean of band values is a band value. Assumes nothing.
+use mathlib.Core.Path.{_≡_, refl, sym, ap, ap₂, subst}
 use mathlib.Core.Bool.{Bool, true, false, cond}
 use Prim.Native.Nat.{ℕ, _+_, _-_, _≤_, min, max}
 use native.Mathlib.Omega.{arith}
+use lib.Dec.{leb}
 use lib.IntN.{ℤ, pos, _-ℤ_}
 use lib.Signed.{leZ, _≤ℤ_}
 use Rattle.laws.specs.Parts.{P, N}
+use Rattle.laws.specs.Extremes.{Number}
 use Rattle.laws.proofs.Ints.{plus, minus, apart, eq-made, le-made, le-yes, le-no}
 use Rattle.quantity.specs.Quantities.{inRange}
 use Rattle.quantity.proofs.Rim.{range-read, range-yes}
 use Rattle.energy.specs.Energies.{F}
 use Rattle.energy.specs.Means.{v, least₃, sum₃, mean₃}
 use Rattle.energy.proofs.Between.{greatest₃, mean-between}
+use Rattle.energy.proofs.Threes.{sum-bounds}
+use Rattle.energy.proofs.Bounds.{G, v-by-G}
 use Rattle.curve.proofs.Counted.{Up}
 use Rattle.rating.specs.Terms.{lesser, greater}
 use Rattle.means.specs.Means.{leastOf₃, energiesOf₃, meanOf₃}
@@ -72,12 +76,30 @@ module _ (c : ℕ) (x y z : ℤ) (a b d : ℕ) (t : Three c x y z a b d) where
       let w = mean-between a b d in
       (le-made (omega (arith, mean-up, least-up, w .0)), le-made (omega (arith, mean-up, greatest-up, w .1)))
 
--- "The mean is m + v": it lies between the least and the greatest of the three, whatever they are
-pub mean-between-three : (x y z : ℤ) → (leastOf₃ x y z ≤ℤ meanOf₃ x y z) × (meanOf₃ x y z ≤ℤ greater x (greater y z))
-mean-between-three x y z =
-    let c : ℕ = N x + N y + N z in
-    mean-lies c x y z (c - N x + P x) (c - N y + P y) (c - N z + P z)
-    (record { first = omega arith; second = omega arith; third = omega arith })
+-- any three, counted from a floor below them
+module _ (x y z : ℤ) where
+  abbrev base : ℕ
+  base = N x + N y + N z
+
+  abbrev over : ℤ → ℕ
+  over w = base - N w + P w
+
+  three : Three base x y z (over x) (over y) (over z)
+  three = record { first = omega arith; second = omega arith; third = omega arith }
+
+  -- "The mean is m + v": it lies between the least and the greatest of the three, whatever they are
+  pub mean-between-three : (leastOf₃ x y z ≤ℤ meanOf₃ x y z) × (meanOf₃ x y z ≤ℤ greater x (greater y z))
+  mean-between-three = mean-lies base x y z (over x) (over y) (over z) three
+
+  -- the sum of their energies lies where v is the paper's number
+  pub energies-bounds : (1000000000 ≤ energiesOf₃ (leastOf₃ x y z) x y z) × (energiesOf₃ (leastOf₃ x y z) x y z ≤ 3000000000)
+  energies-bounds =
+      subst (λ (S : ℕ). (1000000000 ≤ S) × (S ≤ 3000000000)) (sym (energies-up base x y z (over x) (over y) (over z) three))
+      (sum-bounds (over x) (over y) (over z))
+
+  -- "S the sum of F(x - m), v the number of j >= 1 with S <= G(j)": of all j
+  pub mean-number : let S = energiesOf₃ (leastOf₃ x y z) x y z in Number (λ j. leb S (G j)) (v S)
+  mean-number = v-by-G (energiesOf₃ (leastOf₃ x y z) x y z) (energies-bounds .0) (energies-bounds .1)
 
 -- the mean of three band values is a band value
 pub mean-counts : (a b d : ℕ) → a ≤ 1700 → b ≤ 1700 → d ≤ 1700 → mean₃ a b d ≤ 1700

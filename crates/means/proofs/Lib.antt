@@ -4,3 +4,4 @@ pub mod Filling
 pub mod Marks
 pub mod Thirds
 pub mod Meaning
+pub mod Past

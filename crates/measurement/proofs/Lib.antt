@@ -1,3 +1,4 @@
 -- Laws of lists of readings.
 pub mod Runs
 pub mod Meaning
+pub mod Past

@@ -3,3 +3,4 @@ pub mod Signed
 pub mod Improvements
 pub mod Gradings
 pub mod Meaning
+pub mod Past

@@ -7,3 +7,5 @@ pub mod Sheeted
 pub mod Rated
 pub mod Small
 pub mod Theorems
+pub mod Sums
+pub mod Starts

@@ -78,6 +78,14 @@ unfolding anyTo
 any-same f g zero h = refl
 any-same f g (suc n) h = ap₂ _||_ (any-same f g n (λ i q. h i (omega arith))) (h n (le-refl (suc n)))
 
+pub accepted-same : (s t : BandSet) (n : ℕ) → ((i : ℕ) → i < n → bandOf s i ≡ bandOf t i) → accepted s n ≡ accepted t n
+unfolding accepted
+accepted-same s t n values = all-same (λ j. inRange (bandOf s j)) (λ j. inRange (bandOf t j)) n (λ j h. ap inRange (values j h))
+
+pub limited-same : (s t : BandSet) (n : ℕ) → ((i : ℕ) → i < n → bit (s .marks) i ≡ bit (t .marks) i) → limited s n ≡ limited t n
+unfolding limited
+limited-same s t n marks = any-same (bit (s .marks)) (bit (t .marks)) n marks
+
 least-same : (f g : ℕ → ℤ) (n : ℕ) → ((i : ℕ) → i < suc n → f i ≡ g i) → leastTo f n ≡ leastTo g n
 unfolding leastTo
 least-same f g zero h = h 0 (omega arith)
@@ -109,7 +117,7 @@ module _ (k : Kind) (x y : ℕ → ℤ) (same : (i : ℕ) → i < bandsOf k → 
   shifts-same = first-same (λ s. within k x (shifted k (startOf k x) s)) (λ s. within k y (shifted k (startOf k y) s)) 500 0
       (λ s. within-same (shifted k (startOf k x) s) ∙ ap (λ (z : ℤ). within k y (shifted k z s)) start-same)
 
-  rating-same : ratingOf k x ≡ ratingOf k y
+  pub rating-same : ratingOf k x ≡ ratingOf k y
   unfolding ratingOf positionOf
   rating-same = ap₂ (λ (z : ℤ) (s : ℕ). shifted k z s -ℤ takenOff k) start-same shifts-same
 
@@ -149,22 +157,21 @@ module _ (k : Kind) (x y : ℕ → ℤ) (same : (i : ℕ) → i < bandsOf k → 
 
 sheet-same : (k : Kind) (s t : BandSet) → ((i : ℕ) → i < bandsOf k → bandOf s i ≡ bandOf t i)
     → ((i : ℕ) → i < bandsOf k → bit (s .marks) i ≡ bit (t .marks) i) → sheetOf k s ≡ sheetOf k t
-unfolding sheetOf limited
+unfolding sheetOf
 sheet-same k s t values marks = λ i. record {
   rating = record { 0 = rating-same k (bandOf s) (bandOf t) values i };
   first = record { 0 = first-same-by k (bandOf s) (bandOf t) values (airborne k) i };
   second = second-same-by k (bandOf s) (bandOf t) values (airborne k) i;
   shifts = shifts-same k (bandOf s) (bandOf t) values i;
-  limit = any-same (bit (s .marks)) (bit (t .marks)) (bandsOf k) marks i;
+  limit = limited-same s t (bandsOf k) marks i;
 }
 
 pub past-length : (k : Kind) (s t : BandSet) → s .len ≡ t .len → ((i : ℕ) → i < bandsOf k → bandOf s i ≡ bandOf t i)
     → ((i : ℕ) → i < bandsOf k → bit (s .marks) i ≡ bit (t .marks) i) → ratedOf k s ≡ ratedOf k t
-unfolding ratedOf accepted
-past-length k s t len values marks =
-    let b : allTo (λ j. inRange (bandOf s j)) (bandsOf k) ≡ allTo (λ j. inRange (bandOf t j)) (bandsOf k) =
-    all-same (λ j. inRange (bandOf s j)) (λ j. inRange (bandOf t j)) (bandsOf k) (λ j h. ap inRange (values j h)) in
-    λ i. asked (eqb (len i) (bandsOf k)) (asked (b i) (Rating (sheet-same k s t values marks i)) (Refused BandRange)) (Refused BandCount)
+unfolding ratedOf
+past-length k s t len values marks = λ i.
+    asked (eqb (len i) (bandsOf k)) (asked (accepted-same s t (bandsOf k) values i) (Rating (sheet-same k s t values marks i)) (Refused BandRange))
+    (Refused BandCount)
 
 -- ---- the same for any values in range, whatever holds them
 listed-tenths : (ℕ → ℤ) → ℕ → ℕ → List Tenths
