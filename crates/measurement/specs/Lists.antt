@@ -40,7 +40,7 @@ abbrev pub limitOf : Taken → Bool
 limitOf (one.Value t limit) = limit
 limitOf (one.Refused r) = false
 
--- the refusal that it gives, if it was not
+-- the refusal that a reading gives, if any
 abbrev pub outcomeOf : Taken → Outcome
 outcomeOf (one.Value t limit) = Accepted
 outcomeOf (one.Refused r) = Refused r

@@ -1,4 +1,4 @@
--- Document 01, "Refusal numbers": the number of each case, and the first of two.
+-- Document 01, "Refusal numbers": the number of each case, and the first refusal of two.
 use Prim.Native.Nat.{ℕ}
 use Rattle.quantity.specs.declared.refusals.Refusal.{Refusal}
 use Rattle.quantity.specs.declared.refusals.Refusal.the-variants.{BandCount, NotFinite, NoReading, BandRange, Background, DerivedRange, TimeRange, NotBetter, TargetRange, NoRoom, NotRequest, SpecimenCount}
@@ -19,7 +19,7 @@ numberOf NoRoom = 10
 numberOf NotRequest = 11
 numberOf SpecimenCount = 12
 
--- "Order: ..": a refusal that stands is kept
+-- of two outcomes in the order of the tests: a refusal that stands is kept
 abbrev pub orElse : Outcome → Outcome → Outcome
 orElse Accepted o = o
 orElse (Refused r) o = Refused r

@@ -11,7 +11,7 @@ use lib.Dec.{T, eqb, leb}
 use lib.IntN.{ℤ, pos, _+ℤ_, _-ℤ_, _*ℤ_}
 use lib.ListN.{getD}
 use Rattle.laws.specs.Parts.{P}
-use Rattle.laws.specs.Sums.{sumTo, sumℤ}
+use Rattle.laws.specs.Sums.{sumTo}
 use Rattle.laws.proofs.Ints.{plus, minus, eq-made, le-read}
 use Rattle.laws.proofs.Sums.{sum-same, sumℤ-same}
 use Rattle.quantity.specs.Quantities.{inRange, halfUp, bandOf}

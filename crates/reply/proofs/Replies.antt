@@ -36,7 +36,6 @@ use Rattle.request.specs.Reading.Bands.{broken, ended}
 use Rattle.request.specs.Reading.Asked.{asked}
 use Rattle.request.specs.Gathering.{nought, valueOf, faultOf, firstFault, marksOf, valuesOf, Holds, GatheredAt}
 use Rattle.reply.specs.Answers.{setOf, judgedBy, judged, judgedIn, Clean, noReply, replyTo, replyAt, replyText, Keyed}
-use Rattle.request.proofs.Leaves.{inside}
 use Rattle.request.proofs.Stands.{Stands, fits}
 use Rattle.request.proofs.Wholes.{BandsGood, bands-ok, span-most, kind-ok, kind-two, text-length, RequestGood, request-ok}
 

@@ -8,7 +8,6 @@ use quantity::Tenths;
 use quantity::signed::less;
 ghost use mathlib.Core.Path.{_≡_};
 ghost use Prim.Native.Nat.{_+_, _≤_, _<_};
-ghost use lib.IntN.{pos, negsuc};
 ghost use lib.ListN.{length};
 ghost use Rattle.quantity.specs.Refusals.{orElse};
 ghost use Rattle.request.specs.Texts.{Band};
