@@ -9,7 +9,7 @@ ghost use mathlib.Core.Path.{_≡_};
 ghost use mathlib.Core.List.{_++_, _∷_, []};
 ghost use Prim.Native.Nat.{_+_, _≤_, _<_};
 ghost use lib.ListN.{length, take, drop};
-ghost use Rattle.laws.specs.Parts.{P, N};
+ghost use Rattle.laws.specs.Parts.{N};
 ghost use Rattle.answer.specs.Texts.{decimal, numberText, termText, kindText, others, setText, markFields, shiftsFields, secondFields, firstFields, ratingFields, sheetFields, fieldsOf, noRequestText, front};
 
 // How many digits a number has.

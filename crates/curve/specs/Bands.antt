@@ -1,5 +1,5 @@
 -- Tests over all bands of a set: that each value is in range, and that some band is a limit value.
-use mathlib.Core.Bool.{Bool, true, false, not, _&&_, _||_}
+use mathlib.Core.Bool.{Bool, true, false, _&&_, _||_}
 use Prim.Native.Nat.{ℕ, zero, suc, _/_, _%_, _^_}
 use lib.Dec.{eqb}
 use Rattle.quantity.specs.Quantities.{inRange, bandOf}

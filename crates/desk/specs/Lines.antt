@@ -8,9 +8,13 @@ unfoldable pub use Rattle.request.specs.Texts.{keyByte, levelText, bandText, re
 -- the request that a line is, and its answer
 pub use Rattle.request.specs.Reading.{Request}
 unfoldable pub use Rattle.request.specs.Reading.{requestOf}
-pub use Rattle.reply.specs.Answers.{answerTo}
-unfoldable pub use Rattle.request.specs.Gathering.{firstFault}
-unfoldable pub use Rattle.reply.specs.Answers.{judged, answerOf}
+pub use Rattle.reply.specs.Answers.{judgedBy, answerTo}
+unfoldable pub use Rattle.request.specs.Gathering.{firstFault, marksOf, valuesOf}
+unfoldable pub use Rattle.reply.specs.Answers.{setOf, judged, answerOf}
+-- the same where it stands in a longer input
+pub use Rattle.reply.specs.Answers.{noReply}
+unfoldable pub use Rattle.request.specs.Reading.{requestAt}
+unfoldable pub use Rattle.reply.specs.Answers.{replyTo, replyAt, replyText}
 -- a whole run: one answer for each line, in order
 unfoldable pub use Rattle.line.specs.Answers.{linesOf, answersTo, answersOf}
 -- "The library writes an answer line from an offset that the caller names; bytes before it and after the line keep their
@@ -21,3 +25,5 @@ unfoldable pub use Rattle.line.specs.Answers.{fitsAt, placed, wroteOf}
 pub use Rattle.line.specs.declared.blocks.Progress.{Progress}
 pub use Rattle.line.specs.Blocks.{Step, Block, Answered}
 unfoldable pub use Rattle.line.specs.Blocks.{feedAfter, pieceAt, stepAt, blockFrom, blockOf}
+-- and a run by such calls, whatever is read and whatever room there is
+pub use Rattle.line.specs.Blocks.{answersFrom, Run}

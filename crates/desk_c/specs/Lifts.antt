@@ -1,22 +1,18 @@
 -- The answer of the lift call: a count for one lent array, the listed sets for another.
 use mathlib.Core.Bool.{cond}
-use mathlib.Core.List.{List, [], _∷_}
+use mathlib.Core.List.{List}
 use Prim.Native.Nat.{ℕ}
 use lib.Dec.{leb}
-use lib.IntN.{ℤ, pos}
+use lib.IntN.{ℤ}
 use lib.ListN.{length}
-use Rattle.quantity.specs.Refusals.{numberOf}
 use Rattle.quantity.specs.Quantities.{bandOf}
 use Rattle.quantity.specs.declared.quantities.BandSet.{BandSet}
 use Rattle.rating.specs.declared.kinds.Kind.{Kind}
-use Rattle.lift.specs.declared.lists.Lifted.{Lifted}
-use Rattle.lift.specs.declared.lists.Lifted.the-variants.{Count, Refused}
 use Rattle.lift.specs.Reach.{liftList}
 use Rattle.lift.specs.Calls.{answerOf, bufferBy, countAnswer}
 use Rattle.door.specs.declared.kinds.Named.{Named}
 use Rattle.door.specs.declared.kinds.Named.the-variants.{Is, Unknown}
 use Rattle.quantity.specs.Answers.{Answer}
-use Rattle.quantity.specs.Answers.Answer.{refused, numbers}
 use Rattle.door.specs.Kinds.{kindOf}
 use Rattle.door.specs.Lists.{setFrom}
 use Rattle.desk_c.specs.Ratings.{byKind}

@@ -4,15 +4,12 @@ use mathlib.Core.List.{List, [], _∷_}
 use Prim.Native.Nat.{ℕ, zero, suc}
 use lib.Dec.{leb}
 use lib.ListN.{length}
-use Rattle.quantity.specs.Refusals.{numberOf}
-use Rattle.line.specs.declared.lines.Wrote.{Wrote}
-use Rattle.line.specs.declared.lines.Wrote.the-variants.{Bytes, Refused}
 use Rattle.reply.specs.Answers.{answerOf}
 use Rattle.line.specs.Answers.{placed, wroteOf, wroteAnswer}
 use Rattle.line.specs.Blocks.{Block, blockOf}
 use Rattle.quantity.specs.Answers.{Answer}
 use Rattle.door.specs.Answers.{front}
-use Rattle.quantity.specs.Answers.Answer.{refused, numbers}
+use Rattle.quantity.specs.Answers.Answer.{numbers}
 
 -- imbrolt_line: the length of the answer line
 unfoldable pub lineAnswer : List ℕ → List ℕ → ℕ → Answer ℕ

@@ -1,6 +1,6 @@
 -- Document 01, "Sums of energies", the mean of three: G, the number v, and the mean m + v.
 use mathlib.Core.Bool.{Bool}
-use Prim.Native.Nat.{ℕ, suc, _+_, _*_, _-_, _^_, _≤_, _<_, min}
+use Prim.Native.Nat.{ℕ, _+_, _*_, _-_, _^_, _≤_, min}
 use lib.Dec.{leb}
 use Rattle.laws.specs.Extremes.{greatest}
 use Rattle.energy.specs.Energies.{F}

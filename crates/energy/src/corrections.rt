@@ -1,7 +1,7 @@
 // The background correction c and the reverberation steps k.
 use crate::steps::reached;
 ghost use mathlib.Core.Path.{_≡_};
-ghost use Prim.Native.Nat.{_+_, _≤_, _<_};
+ghost use Prim.Native.Nat.{_≤_, _<_};
 ghost use lib.IntN.{pos, _-ℤ_};
 ghost use Rattle.energy.specs.Corrections.{c, k};
 

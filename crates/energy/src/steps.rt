@@ -1,6 +1,6 @@
 // Numbers of steps by thresholds: how many entries of an ascending table a sum has reached.
 ghost use mathlib.Core.Path.{_≡_};
-ghost use Prim.Native.Nat.{_+_, _≤_, _<_};
+ghost use Prim.Native.Nat.{_+_, _<_};
 ghost use Rattle.energy.specs.Energies.{u, Summed, Thresholds, Starts};
 ghost use Rattle.energy.specs.Steps.{Reached};
 

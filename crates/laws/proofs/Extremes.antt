@@ -1,7 +1,7 @@
 -- Greatest, least and number: each is unique; the bit by bit search finds the greatest; where smaller numbers pass too, the
 -- greatest is also how many pass. Assumes nothing.
 use mathlib.Core.Path.{_≡_, refl, sym, _∙_, ap, subst}
-use mathlib.Core.Bool.{Bool, true, false, not, cond}
+use mathlib.Core.Bool.{Bool, true, false, cond}
 use Prim.Native.Nat.{ℕ, zero, suc, _+_, _-_, _^_, _≤_, _<_}
 use native.Mathlib.Nat.{le-antisymm, lt-of-not-le, not-le-of-lt, le-refl, add-zero, add-suc}
 use native.Mathlib.Omega.{arith}

@@ -5,7 +5,7 @@ use mathlib.Core.Bool.{Bool, true, false, not, cond}
 use Prim.Native.Nat.{ℕ, zero, suc, _+_, _*_, _-_, _≤_, _<_}
 use native.Mathlib.Omega.{arith}
 use borrow.Author.Tests.{ltb-false, leb-false}
-use lib.Dec.{T, leb, ltb, ltb→lt, nltb→le, leb→le, le→leb, lt→ltb}
+use lib.Dec.{T, ltb, ltb→lt, nltb→le, leb→le, le→leb, lt→ltb}
 use lib.IntN.{ℤ, pos, negsuc, negℤ, _+ℤ_, _-ℤ_, _*ℤ_, subℕ}
 use lib.Signed.{_≤ℤ_, _<ℤ_, leZ, ltZ, mag}
 use mir.Val.{SFits}

@@ -2,7 +2,7 @@
 -- a search that computes the greatest.
 use mathlib.Core.Bool.{Bool, true, false, cond}
 use mathlib.Core.Path.{_≡_}
-use Prim.Native.Nat.{ℕ, zero, suc, _+_, _^_, _≤_, _<_}
+use Prim.Native.Nat.{ℕ, zero, suc, _+_, _^_, _≤_}
 
 -- n is the greatest number of which R holds
 pub record Greatest (R : ℕ → Type 0) (n : ℕ) : Type 0 where

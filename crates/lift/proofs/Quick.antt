@@ -14,7 +14,7 @@ use Rattle.curve.specs.Bands.{accepted}
 use Rattle.curve.specs.Levels.{levelBy, levelAt, totalAt}
 use Rattle.rating.specs.declared.kinds.Kind.{Kind}
 use Rattle.rating.specs.Kinds.{airborne, bandsOf, limitOf}
-use Rattle.rating.specs.Curve.{total, ratingOf}
+use Rattle.rating.specs.Curve.{ratingOf}
 use Rattle.rating.specs.Numbers.{listed, entriesOf, ratingAt}
 use Rattle.rating.proofs.Bridge.{listed-is}
 use Rattle.sets.specs.Gains.{byGains, gainAt, Gained}

@@ -15,7 +15,7 @@ use sets::mask_at;
 use sets::position_at;
 ghost use mathlib.Core.Path.{_≡_};
 ghost use mathlib.Core.Bool.{true};
-ghost use Prim.Native.Nat.{ℕ, _+_, _*_, _-_, _≤_, _<_, min};
+ghost use Prim.Native.Nat.{ℕ, _+_, _-_, _≤_, _<_, min};
 ghost use lib.ListN.{length};
 ghost use Rattle.quantity.specs.Quantities.{bandOf};
 ghost use Rattle.curve.specs.Bands.{accepted};

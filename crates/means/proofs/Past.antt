@@ -7,7 +7,7 @@ use Prim.Native.Nat.{ℕ, zero, suc, _+_, _*_, _<_}
 use native.Mathlib.Nat.{le-refl}
 use native.Mathlib.Decide.{decLt}
 use native.Mathlib.Omega.{arith}
-use borrow.Author.Tests.{lt-ltb, le-ltb, eqb-true}
+use borrow.Author.Tests.{lt-ltb, le-ltb, eqb-true, ne-eqb}
 use lib.Dec.{eqb, ltb}
 use lib.IntN.{ℤ, pos}
 use Rattle.quantity.specs.Quantities.{bandOf}
@@ -19,7 +19,7 @@ use Rattle.measurement.specs.declared.lists.Readings.{Readings}
 use Rattle.measurement.specs.Lists.{weightOf, listed, allOf, refusedList}
 use Rattle.measurement.proofs.Past.{Alike, all-past}
 use Rattle.curve.specs.Bands.{bit}
-use Rattle.rating.proofs.Theorems.{accepted-same}
+use Rattle.rating.proofs.Theorems.{accepted-same, Stated, past-by}
 use Rattle.rooms.specs.Background.{tenths}
 use Rattle.means.specs.Means.{meanOf₃}
 use Rattle.means.specs.Sets.{marksTo, meanAt, markAt, meansOf, octavesOf, specimensBy, specimensOf}
@@ -63,15 +63,22 @@ module _ (x y : ℕ → ℤ) (p q n step stride places : ℕ) (room : (j : ℕ) 
     len = n;
   }
 
-pub octaves-past : (s t : BandSet) → s .len ≡ t .len → ((i : ℕ) → i < 16 → bandOf s i ≡ bandOf t i)
+octaves-other : (s : BandSet) → (s .len ≡ 16 → ⊥) → octavesOf s ≡ refusedList BandCount
+unfolding octavesOf
+octaves-other s f = rw (ne-eqb (s .len) 16 f)
+
+octaves-agreed : (s t : BandSet) → s .len ≡ t .len → ((i : ℕ) → i < 16 → bandOf s i ≡ bandOf t i)
     → ((i : ℕ) → i < 16 → bit (s .marks) i ≡ bit (t .marks) i) → octavesOf s ≡ octavesOf t
 unfolding octavesOf
-octaves-past s t len values marks =
+octaves-agreed s t len values marks =
     let m : meansOf (bandOf s) (s .marks) 5 3 1 ≡ meansOf (bandOf t) (t .marks) 5 3 1 =
     means-alike (bandOf s) (bandOf t) (s .marks) (t .marks) 5 3 1 16 (λ j h. omega arith) values marks in
     λ i. cond (eqb (len i) 16)
     (cond (accepted-same s t 16 values i) (record { outcome = Accepted; set = m i }) (refusedList BandRange))
     (refusedList BandCount)
+
+pub octaves-past : (s t : BandSet) → Stated s t → octavesOf s ≡ octavesOf t
+octaves-past = past-by octavesOf 16 (refusedList BandCount) octaves-other octaves-agreed
 
 pub specimens-past : (a b : List Reading) (len : ℕ) → Alike a b len → specimensOf a len ≡ specimensOf b len
 unfolding specimensOf

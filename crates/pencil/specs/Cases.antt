@@ -1,17 +1,16 @@
 -- Document 01, "Pencil checks": the cases marked P, as one table over the definitions. Each row is a claim that is computed.
-use mathlib.Core.Bool.{Bool, true, false, _&&_}
+use mathlib.Core.Bool.{false}
 use mathlib.Core.List.{List, [], _∷_, _++_, map}
 use mathlib.Core.Path.{_≡_}
-use Prim.Native.Nat.{ℕ, zero, suc, _+_, _*_, _-_}
-use lib.Dec.{eqb}
-use lib.IntN.{ℤ, pos, negsuc, negℤ, _+ℤ_, _-ℤ_, _*ℤ_}
+use Prim.Native.Nat.{ℕ, _-_}
+use lib.IntN.{ℤ, pos, negℤ}
 use lib.ListN.{getD, length, replicate}
 use Rattle.quantity.specs.declared.refusals.Refusal.{Refusal}
 use Rattle.quantity.specs.declared.refusals.Refusal.the-variants.{BandCount}
 use Rattle.quantity.specs.declared.quantities.BandSet.{BandSet}
 use Rattle.energy.specs.Corrections.{c, k}
 use Rattle.rating.specs.declared.kinds.Kind.{Kind}
-use Rattle.rating.specs.declared.kinds.Kind.the-variants.{A3, A1, I3, I1}
+use Rattle.rating.specs.declared.kinds.Kind.the-variants.{A3, A1, I3}
 use Rattle.rating.specs.declared.sheets.Term.{Term}
 use Rattle.rating.specs.declared.sheets.Term.the-variants.{Given, Absent}
 use Rattle.rating.specs.declared.sheets.Rated.the-variants.{Rating, Refused}

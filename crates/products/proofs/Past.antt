@@ -4,6 +4,7 @@ use mathlib.Core.Path.{_≡_, refl, sym, _∙_, ap}
 use mathlib.Core.Bool.{cond}
 use mathlib.Core.List.{List}
 use Prim.Native.Nat.{ℕ, _<_}
+use borrow.Author.Tests.{ne-eqb}
 use lib.Dec.{eqb}
 use lib.IntN.{ℤ, _-ℤ_}
 use Rattle.quantity.specs.Quantities.{bandOf}
@@ -18,7 +19,7 @@ use Rattle.rating.specs.declared.kinds.Kind.the-variants.{I3}
 use Rattle.rating.specs.declared.sheets.Rated.{Rated}
 use Rattle.rating.specs.declared.sheets.Rated.the-variants as rated
 use Rattle.rating.specs.Sheets.{ratedOf}
-use Rattle.rating.proofs.Theorems.{accepted-same, limited-same, past-length}
+use Rattle.rating.proofs.Theorems.{accepted-same, limited-same, Stated, past-by, past-length}
 use Rattle.rooms.specs.Background.{tenths}
 use Rattle.means.proofs.Filling.{listed-at}
 use Rattle.means.proofs.Past.{specimens-past}
@@ -35,18 +36,28 @@ module _ (s t : BandSet) (len : s .len ≡ t .len) (values : (i : ℕ) → i < 1
     (marks : (i : ℕ) → i < 16 → bit (s .marks) i ≡ bit (t .marks) i) where
   rated-same : ratedOf I3 (derivedSet s) ≡ ratedOf I3 (derivedSet t)
   unfolding derivedSet
-  rated-same = past-length I3 (derivedSet s) (derivedSet t) refl
-      (λ i h. derived-at s i h ∙ ap (λ (z : ℤ). floorAt i -ℤ z) (values i h) ∙ sym (derived-at t i h)) marks
+  rated-same = past-length I3 (derivedSet s) (derivedSet t) (record {
+    len = refl;
+    values = λ i h. derived-at s i h ∙ ap (λ (z : ℤ). floorAt i -ℤ z) (values i h) ∙ sym (derived-at t i h);
+    marks = marks;
+  })
 
   by-same : (r : Rated) → coverBy s r ≡ coverBy t r
   by-same (rated.Rating sheet) = ap (improvementOf sheet) (limited-same s t 16 marks)
   by-same (rated.Refused r) = refl
 
-  pub cover-past : coverOf s ≡ coverOf t
+  cover-agreed : coverOf s ≡ coverOf t
   unfolding coverOf
-  cover-past =
+  cover-agreed =
       let c = ap (coverBy s) rated-same ∙ by-same (ratedOf I3 (derivedSet t)) in
       λ i. cond (eqb (len i) 16) (cond (accepted-same s t 16 values i) (c i) (Refused BandRange)) (Refused BandCount)
+
+cover-other : (s : BandSet) → (s .len ≡ 16 → ⊥) → coverOf s ≡ Refused BandCount
+unfolding coverOf
+cover-other s f = rw (ne-eqb (s .len) 16 f)
+
+pub cover-past : (s t : BandSet) → Stated s t → coverOf s ≡ coverOf t
+cover-past = past-by coverOf 16 (Refused BandCount) cover-other cover-agreed
 
 pub grade-past : (a b : List Reading) (len : ℕ) (side : Side) → Alike a b len → gradesOf a len side ≡ gradesOf b len side
 unfolding gradesOf

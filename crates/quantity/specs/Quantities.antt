@@ -4,7 +4,6 @@ use Prim.Native.Nat.{ℕ}
 use lib.IntN.{ℤ, pos, negsuc, _+ℤ_}
 use lib.Signed.{leZ, shrZ, _≤ℤ_}
 use lib.ListN.{getD}
-use Rattle.quantity.specs.declared.quantities.Tenths.{Tenths}
 use Rattle.quantity.specs.declared.quantities.BandSet.{BandSet}
 
 -- z lies from a to b

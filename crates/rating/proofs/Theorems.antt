@@ -6,6 +6,7 @@ use mathlib.Core.Bool.{Bool, true, false, cond, _&&_, _||_}
 use mathlib.Core.List.{List, [], _∷_}
 use Prim.Native.Nat.{ℕ, zero, suc, _+_, _*_, _-_, _≤_, _<_}
 use native.Mathlib.Nat.{le-refl, not-suc-le-zero, add-zero, add-suc, suc-add}
+use native.Mathlib.Decide.{ℕ-discrete}
 use native.Mathlib.Omega.{arith}
 use lib.Dec.{T, eqb, leb}
 use lib.IntN.{ℤ, pos, _+ℤ_, _-ℤ_, _*ℤ_}
@@ -33,6 +34,7 @@ use Rattle.rating.specs.Sheets.{firstBy, secondBy, sheetOf, ratedOf, ask
 use Rattle.rating.specs.Numbers.{entriesOf, startAdd}
 use Rattle.rating.proofs.Facts.{count-of}
 use Rattle.rating.proofs.Meaning.{is-position}
+use Rattle.rating.proofs.Rated.{wrong-count}
 
 -- ---- "The rating is the greatest whole X whose deficits total at most the limit", "take the least whole Y"
 pub position-best : (k : Kind) (s : BandSet) → accepted s (bandsOf k) ≡ true → IsPosition k (bandOf s) (positionOf k (bandOf s))
@@ -166,12 +168,31 @@ sheet-same k s t values marks = λ i. record {
   limit = limited-same s t (bandsOf k) marks i;
 }
 
-pub past-length : (k : Kind) (s t : BandSet) → s .len ≡ t .len → ((i : ℕ) → i < bandsOf k → bandOf s i ≡ bandOf t i)
+-- two sets that state the same: the same length, and the same bands and marks below it
+pub record Stated (s t : BandSet) : Type 0 where
+  pub len : s .len ≡ t .len
+  pub values : (i : ℕ) → i < s .len → bandOf s i ≡ bandOf t i
+  pub marks : (i : ℕ) → i < s .len → bit (s .marks) i ≡ bit (t .marks) i
+
+-- a call that refuses every length but n, and of that length asks for no band from n on, asks for nothing past a stated length
+pub past-by : {A : Type 0} (f : BandSet → A) (n : ℕ) (refusal : A) → ((s : BandSet) → (s .len ≡ n → ⊥) → f s ≡ refusal)
+    → ((s t : BandSet) → s .len ≡ t .len → ((i : ℕ) → i < n → bandOf s i ≡ bandOf t i) → ((i : ℕ) → i < n → bit (s .marks) i ≡ bit (t .marks) i) → f s ≡ f t)
+    → (s t : BandSet) → Stated s t → f s ≡ f t
+past-by f n refusal other same s t a = go (ℕ-discrete (s .len) n)
+  where
+    go : Dec (s .len ≡ n) → f s ≡ f t
+    go (yes e) = same s t (a .len) (λ i h. a .values i (omega arith)) (λ i h. a .marks i (omega arith))
+    go (no e) = other s e ∙ sym (other t (λ q. e (a .len ∙ q)))
+
+agreed : (k : Kind) (s t : BandSet) → s .len ≡ t .len → ((i : ℕ) → i < bandsOf k → bandOf s i ≡ bandOf t i)
     → ((i : ℕ) → i < bandsOf k → bit (s .marks) i ≡ bit (t .marks) i) → ratedOf k s ≡ ratedOf k t
 unfolding ratedOf
-past-length k s t len values marks = λ i.
+agreed k s t len values marks = λ i.
     asked (eqb (len i) (bandsOf k)) (asked (accepted-same s t (bandsOf k) values i) (Rating (sheet-same k s t values marks i)) (Refused BandRange))
     (Refused BandCount)
+
+pub past-length : (k : Kind) (s t : BandSet) → Stated s t → ratedOf k s ≡ ratedOf k t
+past-length k = past-by (ratedOf k) (bandsOf k) (Refused BandCount) (λ s f. sym (wrong-count k s (bandsOf k) refl f)) (agreed k)
 
 -- ---- the same for any values in range, whatever holds them
 listed-tenths : (ℕ → ℤ) → ℕ → ℕ → List Tenths

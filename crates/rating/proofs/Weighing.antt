@@ -8,7 +8,6 @@ use native.Mathlib.Omega.{arith}
 use lib.IntN.{ℤ, pos, _+ℤ_, _-ℤ_, _*ℤ_}
 use lib.Signed.{leZ}
 use Rattle.laws.specs.Parts.{P, N}
-use Rattle.laws.specs.Extremes.{greatest}
 use Rattle.laws.specs.Sums.{sumTo}
 use Rattle.laws.proofs.Extremes.{greatest-below}
 use Rattle.laws.proofs.Ints.{plus, minus, apart, times-P, times-N, eq-made, le-yes, le-no}

@@ -1,7 +1,7 @@
 -- Document 01, "Rating (000, 3.2 and 4.2)": deficits, the rating, the start of the curve method and its shifts. A band set is
 -- here the function x from a band's place to its value in tenths; positions are whole decibels.
 use mathlib.Core.Bool.{Bool, true, false, cond}
-use Prim.Native.Nat.{ℕ, zero, suc, _*_, _≤_}
+use Prim.Native.Nat.{ℕ, zero, suc, _*_}
 use lib.Dec.{leb, T}
 use lib.IntN.{ℤ, pos, negℤ, _+ℤ_, _-ℤ_, _*ℤ_}
 use lib.Signed.{shrZ, _≤ℤ_}

@@ -48,8 +48,8 @@ answerTo (request kind key bands) = ratedText kind key (judged kind bands)
 unfoldable pub answerOf : List ℕ → List ℕ
 answerOf line = answerTo (requestOf line)
 
--- What the code carries between its parts. A request as the code reads it: where its key stands, and what it is answered; a
--- line above 512 bytes is none
+-- the same where it stands in a longer input, of which a block call answers line after line: the position after the request (0
+-- for none: "at most 512 bytes"), where its key stands, and what it is answered
 abbrev pub noReply : Reply
 noReply = record { next = 0; kind = A3; key = 0; len = 0; rated = Refused NotRequest }
 
@@ -61,11 +61,13 @@ replyTo at (asked kind key bands next) =
 unfoldable pub replyAt : List ℕ → ℕ → Reply
 replyAt s at = replyTo at (requestAt s at)
 
--- and the text of it
+-- and the text of that
 unfoldable pub replyText : List ℕ → Reply → List ℕ
 replyText s r = cond (eqb (r .next) 0) noRequestText (ratedText (r .kind) (take (r .len) (drop (r .key) s)) (r .rated))
 
--- what the code makes of the bands that it gathered
+-- ---- What the code carries between its parts.
+
+-- what it makes of the bands that it gathered
 abbrev pub judgedIn : Kind → Gathered → Rated
 judgedIn kind r =
     cond (eqb (r .count) (bandsOf kind))

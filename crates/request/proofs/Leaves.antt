@@ -1,11 +1,11 @@
 -- Single bytes: a byte that is not 0 stands within the line; a digit is its value above 48. Assumes nothing.
-use mathlib.Core.Path.{_≡_, refl, sym, _∙_, ap, subst}
+use mathlib.Core.Path.{_≡_, refl, sym, _∙_, subst}
 use mathlib.Core.Bool.{Bool, true, false, cond, _&&_}
 use mathlib.Core.List.{List, [], _∷_}
 use Prim.Native.Nat.{ℕ, zero, suc, _+_, _-_, _≤_, _<_, suc-le-suc}
 use native.Mathlib.Omega.{arith}
 use borrow.Author.Tests.{le-leb, lt-leb, leb-true, leb-false, eq-eqb, ne-eqb}
-use lib.Dec.{leb, eqb, T}
+use lib.Dec.{leb, T}
 use lib.ListN.{length}
 use Rattle.request.specs.Texts.{between, keyByte}
 use Rattle.request.specs.Reading.{byteAt, digitOf}

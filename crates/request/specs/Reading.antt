@@ -1,18 +1,15 @@
 -- How a request is read, byte by byte from a position: a byte past the end reads as 0, which stands in no request. That these
 -- readers accept exactly the texts of `Texts` is proved in `proofs/Exact.antt`.
-use mathlib.Core.Bool.{Bool, true, false, cond, not, _&&_}
+use mathlib.Core.Bool.{Bool, true, false, cond, _&&_}
 use mathlib.Core.List.{List, [], _∷_, _++_}
 use Prim.Native.Nat.{ℕ, zero, suc, _+_, _*_, _-_}
 use lib.Dec.{leb, ltb, eqb}
-use lib.IntN.{ℤ, pos, negℤ}
+use lib.IntN.{pos, negℤ}
 use lib.ListN.{length, getD, take, drop}
-use Rattle.quantity.specs.declared.quantities.Tenths.{Tenths}
-use Rattle.quantity.specs.Quantities.{inRange}
 use Rattle.rating.specs.declared.kinds.Kind.{Kind}
 use Rattle.rating.specs.declared.kinds.Kind.the-variants.{A3, A1, I3, I1}
 use Rattle.request.specs.declared.bands.Figure.{Figure}
 use Rattle.request.specs.declared.bands.Figure.the-variants.{Read, Nothing}
-use Rattle.request.specs.declared.bands.Field.{Field}
 use Rattle.request.specs.declared.heads.Named.{Named}
 use Rattle.request.specs.declared.heads.Named.the-variants as named
 use Rattle.request.specs.Texts.{Band, between, keyByte}

@@ -1,6 +1,5 @@
 // Single bytes of a line.
 ghost use mathlib.Core.Path.{_≡_};
-ghost use Prim.Native.Nat.{_≤_};
 ghost use Rattle.request.specs.Texts.{between, keyByte};
 ghost use Rattle.request.specs.Reading.{byteAt, digitOf};
 

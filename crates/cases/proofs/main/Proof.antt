@@ -1,6 +1,5 @@
 -- `cases::main` is safe and ends: its buffer keeps its length, and the turns run out. Assumes nothing.
 use mathlib.Core.Path.{_≡_}
-use Prim.Native.Nat.{_-_}
 use native.Mathlib.Omega.{arith}
 use borrow.Author.Needs.{needs}
 use lib.ListN.{length}

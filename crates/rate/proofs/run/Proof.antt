@@ -1,6 +1,5 @@
 -- `rate::run` is safe and ends: the bytes that wait stay within the buffer, and the turns run out. Assumes nothing.
 use mathlib.Core.Path.{_≡_, refl, _∙_, subst, sym}
-use Prim.Native.Nat.{_-_}
 use native.Mathlib.Omega.{arith}
 use borrow.Author.Needs.{needs}
 use lib.ListN.{length}

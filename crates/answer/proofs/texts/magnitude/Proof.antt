@@ -1,6 +1,5 @@
 use native.Mathlib.Omega.{arith}
 use mir.Facts.{toZ-ofZ}
-use Rattle.laws.specs.Parts.{N}
 use Rattle.laws.proofs.Ints.{fits-made, fits-read}
 use Rattle.answer.proofs.Writers.{succ-below}
 use lib.IntN.{pos, _+ℤ_}

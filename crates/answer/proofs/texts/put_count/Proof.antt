@@ -2,7 +2,7 @@ use mathlib.Core.Path.{refl, _∙_, ap}
 use mathlib.Core.List.{[], _∷_}
 use native.Mathlib.Omega.{arith}
 use lib.ListN.{length}
-use Rattle.answer.specs.Texts.{front, decimal}
+use Rattle.answer.specs.Texts.{decimal}
 use Rattle.answer.proofs.Fronts.{front-length, tail-within, tail-length, tail-home}
 use Rattle.answer.proofs.Writers.{stored1}
 use borrow.Author.Needs.{needs}

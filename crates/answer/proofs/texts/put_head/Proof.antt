@@ -1,7 +1,7 @@
 use mathlib.Core.Path.{refl, sym, _∙_, ap}
 use mathlib.Core.List.{List, [], _∷_, _++_}
 use native.Mathlib.Omega.{arith}
-use lib.ListN.{length, take, drop, length-set, length-take}
+use lib.ListN.{take, drop, length-set, length-take}
 use Rattle.answer.specs.Texts.{front}
 use Rattle.answer.proofs.Fronts.{tail-within, tail-length, tail-home, tail-same}
 use Rattle.answer.proofs.Writers.{stored3}

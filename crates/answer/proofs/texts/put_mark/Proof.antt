@@ -1,7 +1,7 @@
 use mathlib.Core.List.{[]}
 use native.Mathlib.Omega.{arith}
-use lib.ListN.{length, length-set}
-use Rattle.answer.specs.Texts.{front, setText}
+use lib.ListN.{length-set}
+use Rattle.answer.specs.Texts.{setText}
 use Rattle.answer.proofs.Writers.{others-length, mark-length, end-length, mark-front}
 use borrow.Author.Needs.{needs}
 use Rattle.answer.proofs.texts.put_mark.Statement.{statement}

@@ -1,7 +1,7 @@
 use mathlib.Core.Path.{_≡_, refl, _∙_, ap}
 use mathlib.Core.List.{[], _∷_}
 use native.Mathlib.Omega.{arith}
-use lib.ListN.{length, take, length-set}
+use lib.ListN.{length, length-set}
 use Rattle.answer.specs.Texts.{front, decimal, numberText}
 use Rattle.answer.proofs.Fronts.{front-length, tail-within, tail-length, tail-home}
 use Prim.Native.Nat.{_<_}

@@ -1,7 +1,6 @@
 use mathlib.Core.List.{_∷_}
 use native.Mathlib.Omega.{arith}
-use lib.ListN.{length}
-use Rattle.answer.specs.Texts.{front, decimal, others, markFields}
+use Rattle.answer.specs.Texts.{decimal, others, markFields}
 use Rattle.answer.proofs.Fronts.{tail-within, tail-length, tail-home}
 use Rattle.answer.proofs.Writers.{others-length, field-front}
 use borrow.Author.Needs.{needs}

@@ -2,7 +2,7 @@ use mathlib.Core.Path.{_∙_, ap}
 use native.Mathlib.Omega.{arith}
 use lib.ListN.{length}
 use Rattle.quantity.proofs.Rim.{back}
-use Rattle.answer.specs.Texts.{decimal, numberText}
+use Rattle.answer.specs.Texts.{numberText}
 use Rattle.answer.proofs.Writers.{sheet-length}
 use borrow.Author.Needs.{needs}
 use Rattle.answer.proofs.texts.sheet_len.Statement.{statement}

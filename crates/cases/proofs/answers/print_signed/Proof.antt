@@ -1,6 +1,5 @@
 -- `cases::answers::print_signed` is safe: the sign is tested first. Assumes nothing.
 use borrow.Author.Needs.{needs}
-use Prim.Native.Nat.{_-_}
 use native.Mathlib.Omega.{arith}
 use mir.Facts.{toZ-ofZ}
 use Rattle.laws.proofs.Ints.{ints, apart, fits-read}

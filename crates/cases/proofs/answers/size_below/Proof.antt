@@ -1,6 +1,5 @@
 -- `cases::answers::size_below` is safe: the number lies from -100000 to 0. Assumes nothing.
 use borrow.Author.Needs.{needs}
-use Prim.Native.Nat.{_-_}
 use mir.Facts.{toZ-ofZ}
 use Rattle.laws.proofs.Ints.{ints, apart}
 use Rattle.cases.proofs.answers.size_below.Statement.{statement}

@@ -1,6 +1,5 @@
 -- `desk_c::measured::imbrolt_raw` meets its contract. Assumes nothing.
 use borrow.Author.Needs.{needs}
-use mathlib.Core.Path.{ap}
 use Rattle.intake.specs.Taken.{takenAnswer}
 use Rattle.door.proofs.Gives.{given}
 use Rattle.desk_c.specs.Rooms.{rawAnswer}

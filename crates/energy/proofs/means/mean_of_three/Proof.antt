@@ -2,7 +2,7 @@
 -- energy. Assumes nothing.
 use borrow.Author.Needs.{needs}
 use mathlib.Core.Path.{_≡_, _∙_, ap, ap₂}
-use Prim.Native.Nat.{ℕ, _+_, _-_, _≤_, min}
+use Prim.Native.Nat.{ℕ, _+_, _≤_, min}
 use native.Mathlib.Omega.{arith}
 use Rattle.energy.specs.Means.{v, sum₃, mean₃}
 use Rattle.energy.proofs.Threes.{sum-bounds, mean-sum, v-most}

@@ -1,7 +1,6 @@
 -- `rating::sheets::rate` meets its contract: the length is tested first, then the bands. Assumes nothing.
 use borrow.Author.Needs.{needs}
 use mathlib.Core.Path.{sym, _∙_, ap}
-use mathlib.Core.Bool.{true, false}
 use borrow.Author.Tests.{not-true, not-false}
 use Rattle.curve.specs.Bands.{accepted}
 use Rattle.curve.proofs.Searched.{count-most}

@@ -2,13 +2,12 @@
 -- rounded. Assumes nothing.
 use borrow.Author.Needs.{needs}
 use mathlib.Core.Path.{_∙_, ap, ap₂}
-use Prim.Native.Nat.{ℕ, _-_, _≤_, _<_}
+use Prim.Native.Nat.{ℕ, _≤_, _<_}
 use native.Mathlib.Omega.{arith}
 use borrow.Author.Needs.{needs}
 use Rattle.laws.specs.Parts.{P, N}
 use Rattle.laws.proofs.Ints.{ints}
 use Rattle.quantity.specs.Quantities.{halfUp}
-use Rattle.energy.specs.Energies.{u}
 use Rattle.curve.specs.Levels.{levelAt, leastOf, energiesOf}
 use Rattle.curve.proofs.Searched.{count-most, count-some, level-at-most, least-below}
 use Rattle.rating.specs.Numbers.{termBy}

@@ -1,7 +1,7 @@
 -- `rating::sheets::weigh` meets its contract: the levels found are those of the set, so least and energies are too. Assumes
 -- nothing.
 use mathlib.Core.Path.{_≡_, sym, _∙_, ap, subst}
-use Prim.Native.Nat.{ℕ, _-_, _≤_}
+use Prim.Native.Nat.{ℕ, _≤_}
 use Rattle.energy.specs.Energies.{u}
 use Rattle.curve.specs.Levels.{at, levelAt, leastOf, energiesOf}
 use Rattle.curve.proofs.Searched.{count-most, count-some, least-alike, least-below, energies-alike, energies-bounds}
