@@ -3,7 +3,7 @@
 -- where nothing waits. Assumes nothing.
 use mathlib.Core.Path.{_≡_, refl, sym, _∙_, ap, subst}
 use mathlib.Core.Bool.{Bool, true, false}
-use mathlib.Core.List.{List, [], _∷_, _++_}
+use mathlib.Core.List.{List, [], _∷_, _++_, append-assoc, append-nil}
 use Prim.Native.Nat.{ℕ, zero, suc, _≤_, _<_}
 use native.Mathlib.Omega.{arith}
 use borrow.Author.Tests.{eqb-true}
@@ -13,8 +13,9 @@ use Rattle.line.specs.Blocks.{Block, blockOf, Run}
 use Rattle.line.proofs.Meaning.{run-is}
 use Rattle.line.proofs.Stops.{none-used, gets-on}
 use Rattle.rate.specs.declared.State.{State}
-use Rattle.rate.specs.Waits.{waiting, blockAt, firstState, readBehind, Advanced}
+use Rattle.rate.specs.Waits.{waiting, blockAt, firstState, readBehind, Advanced, Steps, Ran}
 use Rattle.rate.specs.Waits.Advanced.{answered, ended, read, broken}
+use Rattle.rate.specs.Waits.Steps.{none, more}
 
 -- What is still to come, before a step and after it. A read takes its bytes from the front, and one that has room takes none only
 -- where nothing is to come: this is what is asked of the input.
@@ -32,7 +33,7 @@ pub data Calls (room : ℕ) : State → List ℕ → List ℕ → List ℕ → T
   step : {s r : State} {buf after before future out : List ℕ} → s .on ≡ true → (a : Advanced s buf room r after) → Reads a before future
       → Calls room r after future out → Calls room s buf before (blockAt s buf room .text ++ out)
 
-clash : {b : Bool} → b ≡ true → b ≡ false → ⊥
+pub clash : {b : Bool} → b ≡ true → b ≡ false → ⊥
 clash p q = let z : _≡_ {A = ℕ} 0 1 = cc in omega arith
 
 over : {room : ℕ} {s : State} {buf future out : List ℕ} → Calls room s buf future out → s .on ≡ false → (out ≡ []) × (s .failed ≡ false)
@@ -109,3 +110,23 @@ follows {room = room} {s = s} {buf = buf} (Calls.step {r = r} {after = after} {b
 
 pub all-answered : {room : ℕ} {buf input out : List ℕ} → 64 ≤ room → 512 ≤ length buf → Calls room firstState buf input out → out ≡ answersOf input
 all-answered wide size calls = run-is (follows calls wide size refl (λ e. absurd (clash e refl)))
+
+-- ---- the same of what `run` promises: what its steps read makes up the input, and what they hand out the output
+abbrev pub Moved : {room n : ℕ} {buf after : List ℕ} {s : State} → Steps room buf n s after → List ℕ → List ℕ → List ℕ → Type 0
+Moved none input future out = (input ≡ future) × (out ≡ [])
+Moved {room = room} (more {s = s} {before = before} steps on a) input future out =
+    (coming : List ℕ) × (handed : List ℕ) × Moved steps input coming handed × Reads a coming future × (out ≡ handed ++ blockAt s before room .text)
+
+steps-call : {room n : ℕ} {buf after : List ℕ} {s : State} (steps : Steps room buf n s after) (input future out rest : List ℕ)
+    → Moved steps input future out → Calls room s after future rest → Calls room firstState buf input (out ++ rest)
+steps-call {room = room} {buf = buf} none input future out rest m calls =
+    subst (λ (o : List ℕ). Calls room firstState buf input (o ++ rest)) (sym (m .1))
+    (subst (λ (f : List ℕ). Calls room firstState buf f rest) (sym (m .0)) calls)
+steps-call {room = room} {buf = buf} (more {s = s} {before = before} steps on a) input future out rest m calls =
+    subst (Calls room firstState buf input) (sym (ap (λ (o : List ℕ). o ++ rest) (m .4) ∙ append-assoc (m .1) (blockAt s before room .text) rest))
+    (steps-call steps input (m .0) (m .1) (blockAt s before room .text ++ rest) (m .2) (Calls.step on a (m .3) calls))
+
+pub run-answers : {room : ℕ} {buf after : List ℕ} → 64 ≤ room → 512 ≤ length buf → (r : Ran room buf after) → r .state .on ≡ false → r .state .failed ≡ false
+    → (input future out : List ℕ) → Moved (r .steps) input future out → out ≡ answersOf input
+run-answers wide size r off ok input future out m =
+    sym (append-nil out) ∙ all-answered wide size (steps-call (r .steps) input future out [] m (Calls.stop off ok))

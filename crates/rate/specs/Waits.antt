@@ -2,7 +2,7 @@
 use mathlib.Core.Bool.{true, false}
 use mathlib.Core.List.{List, _++_}
 use mathlib.Core.Path.{_≡_}
-use Prim.Native.Nat.{ℕ, _-_, _≤_}
+use Prim.Native.Nat.{ℕ, suc, _-_, _≤_}
 use lib.Dec.{eqb}
 use lib.ListN.{length, take, drop}
 use Rattle.line.specs.Blocks.{Block, blockOf}
@@ -64,3 +64,19 @@ pub data Advanced (s : State) (buf : List ℕ) (room : ℕ) (r : State) (after :
   ended : blockAt s buf room .used ≡ 0 → s .last ≡ true → r .on ≡ false → r .failed ≡ false → Advanced s buf room r after
   read : blockAt s buf room .used ≡ 0 → s .last ≡ false → Read s buf r after → Advanced s buf room r after
   broken : r .on ≡ false → r .failed ≡ true → Advanced s buf room r after
+
+-- steps one after another, from the first state on: the state and the buffer that so many of them lead to
+pub data Steps (room : ℕ) (buf : List ℕ) : ℕ → State → List ℕ → Type 0 where
+  none : Steps room buf 0 firstState buf
+  more : {n : ℕ} {s r : State} {before after : List ℕ} → Steps room buf n s before → s .on ≡ true → Advanced s before room r after
+      → Steps room buf (suc n) r after
+
+-- A run: such steps until one of them ends it, or until all turns are used up.
+abbrev pub mostTurns : ℕ
+mostTurns = 18446744073709551615
+
+pub record Ran (room : ℕ) (buf after : List ℕ) : Type 0 where
+  pub turns : ℕ
+  pub state : State
+  pub steps : Steps room buf turns state after
+  pub over : state .on ≡ true → turns ≡ mostTurns

@@ -10,7 +10,7 @@ ghost use mathlib.Core.List.{_++_};
 ghost use mathlib.Core.Path.{_≡_};
 ghost use Prim.Native.Nat.{_-_, _≤_};
 ghost use lib.ListN.{length, take, drop};
-ghost use Rattle.rate.specs.Waits.{Waits, blockAt, firstState, Called, Refilled, Advanced};
+ghost use Rattle.rate.specs.Waits.{Waits, blockAt, firstState, Called, Refilled, Advanced, Ran};
 
 // What goes on from turn to turn: the bytes from `start` to `end` of the buffer wait for their answer, `skipping` is what the
 // block call carries on, `last` says that the input has ended, `on` that the run goes on, `failed` that a read or a write did.
@@ -158,7 +158,9 @@ fn advance(buf: &mut [u8], out: &mut [u8], state: State) -> State
 
 // A proved loop has to end, and nothing says that an input does. So the loop counts its turns down, from a number that no run
 // uses up.
-fn run(buf: &mut [u8], out: &mut [u8]) {
+fn run(buf: &mut [u8], out: &mut [u8])
+    ensures { λ _. ⌜ Ran (length (now (out .entry))) (now (buf .entry)) (now (buf .exit)) ⌝ }
+{
     let mut state = started();
     let mut turns = u64::MAX;
     while turns > 0 && state.on {
