@@ -22,6 +22,8 @@ use quantity::Refusal;
 use quantity::Tenths;
 use quantity::signed::above;
 use quantity::signed::below;
+use rating::A1Kind;
+use rating::A3Kind;
 use rating::Rated;
 use rating::Sheet;
 use rating::Term;
@@ -188,13 +190,16 @@ fn print_intake(t: Intake, count: usize) {
 
 // 8: octaves.
 fn octaves(case: Case) {
-    print_intake(means::octaves(set_at(case, 1, 2, 3)), 5);
+    print_intake(means::octaves(set_at(case, 1, 2, 3)), A1Kind::BANDS);
 }
 
 // 9: specimens.
 fn specimens(case: Case) {
     let length = natural(case, 1) as usize;
-    print_intake(means::specimens(readings_at(case, 2, 48), length), 16);
+    print_intake(
+        means::specimens(readings_at(case, 2, 48), length),
+        A3Kind::BANDS,
+    );
 }
 
 // 10: a cover.

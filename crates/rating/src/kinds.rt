@@ -1,6 +1,6 @@
 // The four kinds. Each is a type that owns its band count, its sum limit and its reference entries, and what follows from these:
 // - TENS, ten for each band: a sum of tenths over this is a mean in whole decibels;
-// - MARKS, the number of ways to mark its bands: marks by this leave the marks of other bands out;
+// - MARKS, the number of ways to mark its bands: the remainder of marks by this is the marks of these bands;
 // - SETS, the number of sets of one to three of its n bands, n (n n + 5) / 6;
 // - START, what is added to the sum of the levels, so that over TENS it is the start of the curve method;
 // - ORIGIN, the position that rates 0 dB.
