@@ -35,8 +35,8 @@ pub fn rate_readings(kind: Kind, readings: [Reading; 48], len: usize) -> Rated
     match outcome {
         Outcome::Refused(refusal) => Rated::Refused(refusal),
         Outcome::Accepted => {
-            let set = list.set;
-            rating::rate(kind, set)
+            let taken = list.set;
+            rating::rate(kind, taken)
         }
     }
 }
