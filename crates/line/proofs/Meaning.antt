@@ -251,7 +251,7 @@ module _ (s : List ℕ) (at : ℕ) (F : List ℕ) where
       go (Came.full z l) = refl
 
 -- ---- a block, whatever follows the part
-block-means : (s : List ℕ) (room : ℕ) (skip last : Bool) (F : List ℕ) → (last ≡ true → F ≡ [])
+pub block-means : (s : List ℕ) (room : ℕ) (skip last : Bool) (F : List ℕ) → (last ≡ true → F ≡ [])
     → answersFrom skip (s ++ F) ≡ blockOf s room skip last .text ++ answersFrom (blockOf s room skip last .skipping) (drop (blockOf s room skip last .used) s ++ F)
 unfolding blockOf
 block-means s room skip last F e = by-turns s room last Whole (λ at text skip h. refl) (λ at text skip h z. refl) on (length s) 0 [] skip (omega arith) (omega arith)
