@@ -1,5 +1,5 @@
 -- Texts at the front of a buffer: one byte more, and what was lent the tail to write there. Assumes nothing.
-use mathlib.Core.Path.{_≡_, refl, sym, _∙_, ap}
+use mathlib.Core.Path.{_≡_, sym, _∙_, ap}
 use mathlib.Core.List.{List, [], _∷_, _++_, append-assoc, append-nil}
 use Prim.Native.Nat.{ℕ, suc, _+_, _-_, _≤_, _<_}
 use native.Mathlib.Omega.{arith}
@@ -10,9 +10,6 @@ use Rattle.answer.specs.Texts.{front}
 
 snoc-length : (t : List ℕ) (v : ℕ) → length (t ++ (v ∷ [])) ≡ suc (length t)
 snoc-length t v = length-append t (v ∷ []) ∙ omega arith
-
-pub front-none : (l : List ℕ) → l ≡ front [] l
-front-none l = refl
 
 -- one byte more
 pub front-more : (t l : List ℕ) (k v : ℕ) → k ≡ length t → k < length l → set (front t l) k v ≡ front (t ++ (v ∷ [])) l

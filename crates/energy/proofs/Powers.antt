@@ -19,7 +19,3 @@ grow a {b} h = subst (λ (x : ℕ). x ≤ a * b) (mul-one a) (mul-le-mul-left a 
 -- a test passed and what is below it on the left passes too
 pub pass-down : (a b c : ℕ) → a ≤ b → T (leb b c) → T (leb a c)
 pass-down a b c h t = le→leb a c (le-trans h (leb→le b c t))
-
--- a test passed and what is above it on the right passes too
-pub pass-up : (a b c : ℕ) → b ≤ c → T (leb a b) → T (leb a c)
-pass-up a b c h t = le→leb a c (le-trans (leb→le a b t) h)

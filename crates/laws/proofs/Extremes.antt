@@ -7,7 +7,7 @@ use native.Mathlib.Nat.{le-antisymm, lt-of-not-le, not-le-of-lt, le-refl, add-ze
 use native.Mathlib.Omega.{arith}
 use native.Mathlib.Decide.{decLe}
 use lib.Dec.{T}
-use Rattle.laws.specs.Extremes.{Greatest, Least, Number, one-if, countTo, settle, greatest}
+use Rattle.laws.specs.Extremes.{Greatest, Number, one-if, countTo, settle, greatest}
 
 -- smaller numbers pass too
 abbrev pub Down : (ℕ → Bool) → Type 0
@@ -15,9 +15,6 @@ Down ok = (m n : ℕ) → m ≤ n → T (ok n) → T (ok m)
 
 pub greatest-unique : {R : ℕ → Type 0} {m n : ℕ} → Greatest R m → Greatest R n → m ≡ n
 greatest-unique {m = m} {n = n} a b = le-antisymm (b .best m (a .holds)) (a .best n (b .holds))
-
-pub least-unique : {R : ℕ → Type 0} {m n : ℕ} → Least R m → Least R n → m ≡ n
-least-unique {m = m} {n = n} a b = le-antisymm (a .best n (b .holds)) (b .best m (a .holds))
 
 -- n passes and n + 1 does not: n is the greatest
 pub edge : (ok : ℕ → Bool) → Down ok → (n : ℕ) → T (ok n) → (T (ok (suc n)) → ⊥) → Greatest (λ m. T (ok m)) n
@@ -114,12 +111,3 @@ number-of ok down {n} g = record {
   where
     split : (n b : ℕ) → n ≤ b → n + (b - n) ≡ b
     split n b h = omega arith
-
--- a bound by the least, or by the greatest, is the rule itself
-pub least-reads : {R : ℕ → Type 0} → ((m n : ℕ) → m ≤ n → R m → R n) → {h : ℕ} → Least R h
-    → (s : ℕ) → (h ≤ s → R s) × (R s → h ≤ s)
-least-reads up {h} l s = (λ p. up h s p (l .holds), λ r. l .best s r)
-
-pub greatest-reads : {R : ℕ → Type 0} → ((m n : ℕ) → m ≤ n → R n → R m) → {g : ℕ} → Greatest R g
-    → (s : ℕ) → (s ≤ g → R s) × (R s → s ≤ g)
-greatest-reads down {g} l s = (λ p. down s g p (l .holds), λ r. l .best s r)

@@ -136,9 +136,6 @@ pub taking-none : (readings : List Reading) (count : ℕ) → Taking readings co
 unfolding refusalIn marksIn valuesIn listed
 taking-none readings count = record { within = omega arith; accepted = refl; held = refl; marked = refl }
 
-pub taking-length : (readings : List Reading) (count : ℕ) (values : List Tenths) (marks i : ℕ) → Taking readings count values marks i → length values ≡ 48
-taking-length readings count values marks i t = ap length (t .held) ∙ length-values readings i 48
-
 pub taking-marks : (readings : List Reading) (count : ℕ) (values : List Tenths) (marks i : ℕ) → count ≤ 48 → Taking readings count values marks i → marks ≤ 281474976710656
 taking-marks readings count values marks i h t =
     omega (arith, t .marked, marks-bound readings i, pow-mono {i = i} {j = 48} (omega (arith, t .within)))

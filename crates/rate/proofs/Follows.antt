@@ -26,8 +26,9 @@ Reads {s = s} {buf = buf} {r = r} {after = after} (read u l h) before future =
     (before ≡ readBehind s r after ++ future) × (length (waiting s buf) < length buf → readBehind s r after ≡ [] → future ≡ [])
 Reads (broken o f) before future = before ≡ future
 
--- The calls of a run, from a state and its buffer, with `future` still to come: each step is what `advance` promises, and hands out
--- the answer of what waits, as `hand_out` asks; `out` is all that is handed out. It stops where the run is over and did not fail.
+-- The calls of a run, from a state and its buffer, with `future` still to come: each step is what `advance` promises, and its output
+-- is the answer of what waits, which is what `hand_out` asks for; `out` is all of it. It stops where the run is over and did not
+-- fail.
 pub data Calls (room : ℕ) : State → List ℕ → List ℕ → List ℕ → Type 0 where
   stop : {s : State} {buf future : List ℕ} → s .on ≡ false → s .failed ≡ false → Calls room s buf future []
   step : {s r : State} {buf after before future out : List ℕ} → s .on ≡ true → (a : Advanced s buf room r after) → Reads a before future

@@ -41,7 +41,7 @@ pub record Called (s : State) (buf : List ℕ) (room : ℕ) (t : Turn) (out : Li
   pub text : take (t .wrote) out ≡ blockAt s buf room .text
   pub fits : t .wrote ≤ length out
 
--- after a read: what was read waits behind what waited; nothing was read where the input has ended
+-- after a read: what waited still waits, in front; behind it, whatever waits now besides. The input has ended where that is nothing
 abbrev pub readBehind : State → State → List ℕ → List ℕ
 readBehind s r after = drop (s .end - s .start) (waiting r after)
 

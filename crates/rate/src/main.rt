@@ -8,7 +8,7 @@ use line::answer_block;
 ghost use mathlib.Core.Bool.{false};
 ghost use mathlib.Core.List.{_++_};
 ghost use mathlib.Core.Path.{_≡_};
-ghost use Prim.Native.Nat.{_-_, _≤_};
+ghost use Prim.Native.Nat.{_-_, _≤_, min};
 ghost use lib.ListN.{length, take, drop};
 ghost use Rattle.rate.specs.Waits.{Waits, blockAt, firstState, Called, Refilled, Advanced, Ran};
 
@@ -99,8 +99,9 @@ fn refill(buf: &mut [u8], state: State) -> State
     }
 }
 
+// The lesser of two numbers.
 fn least(a: usize, b: usize) -> usize
-    ensures { λ r. ⌜ (r ≤ a) × (r ≤ b) ⌝ }
+    ensures { λ r. ⌜ r ≡ min a b ⌝ }
 {
     if a < b { a } else { b }
 }

@@ -56,15 +56,6 @@ digit-read b h = go (leb 48 b) (leb b 57) refl refl h
 pub digit-made : (d : ℕ) → d < 10 → digitOf (48 + d) ≡ d
 digit-made d h = sym (digit-yes (48 + d) (omega arith) (omega arith)) ∙ omega arith
 
-pub digit-most : (b : ℕ) → digitOf b ≤ 10
-unfolding digitOf
-digit-most b = go (leb 48 b && leb b 57) (leb 48 b) (leb b 57) refl refl refl
-  where
-    go : (t x y : Bool) → leb 48 b ≡ x → leb b 57 ≡ y → t ≡ x && y → cond (leb 48 b && leb b 57) (b - 48) 10 ≤ 10
-    go t true true p q r = rw (p, q) (omega (arith, leb-true b 57 q))
-    go t true false p q r = rw (p, q) (omega arith)
-    go t false y p q r = rw p (omega arith)
-
 pub inside-byte : (s : List ℕ) (at b : ℕ) → b ≡ byteAt s at → 0 < b → at < length s
 inside-byte s at b e h = inside s at (omega arith)
 

@@ -1,5 +1,5 @@
 -- How a request is read, byte by byte from a position: a byte past the end reads as 0, which stands in no request. That these
--- readers accept exactly the texts of `Texts` is proved in `proofs/Exact.antt`.
+-- readers accept exactly the texts of `Texts` is proved in `proofs/Exact.antt` and, of whole requests, in `proofs/Wholes.antt`.
 use mathlib.Core.Bool.{Bool, true, false, cond, _&&_}
 use mathlib.Core.List.{List, [], _∷_, _++_}
 use Prim.Native.Nat.{ℕ, zero, suc, _+_, _*_, _-_}

@@ -48,9 +48,6 @@ lt-false x y h = go (ltZ x y) refl
 pub near : (z : ℤ) → P z ≤ 100000 → N z ≤ 100000 → toZ w32 (ofZ w32 z) ≡ z
 near z h k = toZ-ofZ (fits-made (omega arith) (omega arith))
 
-pub near-band : (x : ℤ) → inRange x ≡ true → toZ w32 (ofZ w32 x) ≡ x
-near-band x r = let b = range-read x r in near x (omega arith) (omega arith)
-
 -- what is asked where x is counted from a floor, and what is given
 pub asks : (x : ℤ) (floor : ℕ) → N x ≤ floor → P x ≤ 100000 → floor ≤ 100000
     → (N (toZ w32 (ofZ w32 x)) ≤ floor) × (P (toZ w32 (ofZ w32 x)) + floor < 2147483648)

@@ -69,7 +69,7 @@ returns-2 c =
     let shifted = h .shift .last .0 in
     let n = length shifted - keep in
     let ys = r .read .last .1 .0 in
-    let fits : keep + c .least .result ≤ length (a .buf .now) = omega (arith, c .least .ensures .1, h .shift .kept .0, s .pre .order, s .pre .within) in (
+    let fits : keep + c .least .result ≤ length (a .buf .now) = omega (arith, c .least .ensures, h .shift .kept .0, s .pre .order, s .pre .within) in (
       search needs,
       Refilled.read (read-behind st (a .buf .now) shifted ys n (c .least .result) (s .pre) (h .shift .ensures) (h .shift .kept .0)
           (same-len-mid keep n shifted ys (r .read .kept .1 .0) ∙ h .shift .kept .0) fits),
