@@ -2,35 +2,28 @@
 -- same answer. Assumes nothing.
 use mathlib.Core.Path.{_≡_, refl, sym, _∙_, ap}
 use mathlib.Core.Bool.{Bool, true, false}
-use mathlib.Core.List.{List}
+use mathlib.Core.List.{List, [], _∷_}
 use Prim.Native.Nat.{ℕ, zero, suc}
 use native.Mathlib.Omega.{arith}
 use lib.IntN.{ℤ, pos, negsuc}
+use lib.ListN.{getD}
 use Rattle.quantity.specs.declared.refusals.Refusal.{Refusal}
-use Rattle.quantity.specs.declared.refusals.Refusal.the-variants.{BandCount, NotFinite, NoReading, BandRange, Background, DerivedRange, TimeRange, NotBetter, TargetRange, NoRoom, NotRequest, SpecimenCount}
+use Rattle.quantity.specs.declared.refusals.Refusal.the-variants.{BandCount, NotFinite, NoReading, BandRange, Background, DerivedRange, TimeRange, NotBetter, TargetRange, NoRoom, NotRequest, SpecimenCount, PriceRange, OtherBands, RegisterFull, RegisterDamaged}
 use Rattle.quantity.specs.Refusals.{numberOf}
 use Rattle.quantity.specs.Answers.{flag}
 use Rattle.quantity.specs.Answers.Answer.{refused, numbers}
 
--- the refusal of a number (of 0 and of numbers past 12 any)
+-- the refusals by their numbers, from 0; at a number that none has, any
+cases : List Refusal
+cases =
+    BandCount ∷ BandCount ∷ NotFinite ∷ NoReading ∷ BandRange ∷ Background ∷ DerivedRange ∷ TimeRange ∷ NotBetter ∷ TargetRange ∷ NoRoom ∷ NotRequest
+    ∷ SpecimenCount ∷ BandCount ∷ BandCount ∷ BandCount ∷ PriceRange ∷ OtherBands ∷ RegisterFull ∷ RegisterDamaged ∷ []
+
 withNumber : ℕ → Refusal
-withNumber zero = BandCount
-withNumber (suc zero) = BandCount
-withNumber (suc (suc zero)) = NotFinite
-withNumber (suc (suc (suc zero))) = NoReading
-withNumber (suc (suc (suc (suc zero)))) = BandRange
-withNumber (suc (suc (suc (suc (suc zero))))) = Background
-withNumber (suc (suc (suc (suc (suc (suc zero)))))) = DerivedRange
-withNumber (suc (suc (suc (suc (suc (suc (suc zero))))))) = TimeRange
-withNumber (suc (suc (suc (suc (suc (suc (suc (suc zero)))))))) = NotBetter
-withNumber (suc (suc (suc (suc (suc (suc (suc (suc (suc zero))))))))) = TargetRange
-withNumber (suc (suc (suc (suc (suc (suc (suc (suc (suc (suc zero)))))))))) = NoRoom
-withNumber (suc (suc (suc (suc (suc (suc (suc (suc (suc (suc (suc zero))))))))))) = NotRequest
-withNumber (suc (suc (suc (suc (suc (suc (suc (suc (suc (suc (suc (suc zero)))))))))))) = SpecimenCount
-withNumber (suc (suc (suc (suc (suc (suc (suc (suc (suc (suc (suc (suc (suc n))))))))))))) = SpecimenCount
+withNumber n = getD cases n BandCount
 
 with-number : (r : Refusal) → withNumber (numberOf r) ≡ r
-unfolding withNumber
+unfolding withNumber cases
 with-number BandCount = refl
 with-number NotFinite = refl
 with-number NoReading = refl
@@ -43,6 +36,10 @@ with-number TargetRange = refl
 with-number NoRoom = refl
 with-number NotRequest = refl
 with-number SpecimenCount = refl
+with-number PriceRange = refl
+with-number OtherBands = refl
+with-number RegisterFull = refl
+with-number RegisterDamaged = refl
 
 pub number-one : (a b : Refusal) → numberOf a ≡ numberOf b → a ≡ b
 number-one a b e = sym (with-number a) ∙ ap withNumber e ∙ with-number b

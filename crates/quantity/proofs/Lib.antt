@@ -1,3 +1,4 @@
--- Laws of the quantities.
+-- Laws of the quantities, of keys and of answers.
 pub mod Rim
+pub mod Shapes
 pub mod Answers

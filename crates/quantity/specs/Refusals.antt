@@ -1,7 +1,8 @@
--- Document 01, "Refusal numbers": the number of each case, and the first refusal of two.
+-- Document 01, "Refusal numbers", and those of document 02, request (x), from 16 on: the number of each case, and the first
+-- refusal of two.
 use Prim.Native.Nat.{ℕ}
 use Rattle.quantity.specs.declared.refusals.Refusal.{Refusal}
-use Rattle.quantity.specs.declared.refusals.Refusal.the-variants.{BandCount, NotFinite, NoReading, BandRange, Background, DerivedRange, TimeRange, NotBetter, TargetRange, NoRoom, NotRequest, SpecimenCount}
+use Rattle.quantity.specs.declared.refusals.Refusal.the-variants.{BandCount, NotFinite, NoReading, BandRange, Background, DerivedRange, TimeRange, NotBetter, TargetRange, NoRoom, NotRequest, SpecimenCount, PriceRange, OtherBands, RegisterFull, RegisterDamaged}
 use Rattle.quantity.specs.declared.refusals.Outcome.{Outcome}
 use Rattle.quantity.specs.declared.refusals.Outcome.the-variants.{Accepted, Refused}
 
@@ -18,6 +19,10 @@ numberOf TargetRange = 9
 numberOf NoRoom = 10
 numberOf NotRequest = 11
 numberOf SpecimenCount = 12
+numberOf PriceRange = 16
+numberOf OtherBands = 17
+numberOf RegisterFull = 18
+numberOf RegisterDamaged = 19
 
 -- of two outcomes in the order of the tests: a refusal that stands is kept
 abbrev pub orElse : Outcome → Outcome → Outcome

@@ -1,12 +1,13 @@
-// Tenths, decibels, hundredths, readings and band sets.
+// Tenths, decibels, hundredths, fen, readings and band sets.
 use crate::signed::above;
 use crate::signed::less;
 ghost use mathlib.Core.Path.{_≡_};
-ghost use Rattle.quantity.specs.Quantities.{inRange, halfUp};
+ghost use Rattle.quantity.specs.Quantities.{inRange, halfUp, priced};
 ghost use Rattle.quantity.specs.Quantities.{InRange};
 ghost use lib.IntN.{pos, negsuc};
 
 // A measured or derived value, in tenths of a decibel.
+#[repr(C)]
 pub struct Tenths(pub i32);
 
 // A single number, in whole decibels: a rating, a target, a rounded term.
@@ -14,6 +15,10 @@ pub struct Decibels(pub i32);
 
 // A reverberation time, in hundredths of a second.
 pub struct Hundredths(pub u32);
+
+// A price or a total, in fen.
+#[repr(C)]
+pub struct Fen(pub u32);
 
 // What the analyser gives for a band: a level, a limit value, or nothing.
 pub enum Reading {
@@ -54,5 +59,14 @@ impl Tenths {
         // counted from -1000 dB, so that the quotient is one of naturals
         let up = above(t, 10005) / 10;
         Decibels(less(up, 1000))
+    }
+}
+
+impl Fen {
+    // Whether this is a price: 0 to 1,000,000 fen.
+    pub fn in_range(self) -> bool
+        ensures { λ r. ⌜ r ≡ priced (self .0) ⌝ }
+    {
+        self.0 <= 1000000
     }
 }

@@ -1,4 +1,4 @@
-// The refusals: one case for each number of the paper.
+// The refusals: one case for each number of the papers that a call can give. 13 to 15 are free: they come with other requests.
 ghost use mathlib.Core.Path.{_≡_};
 ghost use Rattle.quantity.specs.Refusals.{numberOf};
 
@@ -27,6 +27,14 @@ pub enum Refusal {
     NotRequest,
     // 12: the specimens are not 48 values
     SpecimenCount,
+    // 16: the price is out of range
+    PriceRange,
+    // 17: the customer and key are there with another kind or other bands
+    OtherBands,
+    // 18: no room for a new key
+    RegisterFull,
+    // 19: the register is one that no calls could have left so
+    RegisterDamaged,
 }
 
 // Whether all was taken, or the first refusal.
@@ -53,6 +61,10 @@ impl Refusal {
             Refusal::NoRoom => 10,
             Refusal::NotRequest => 11,
             Refusal::SpecimenCount => 12,
+            Refusal::PriceRange => 16,
+            Refusal::OtherBands => 17,
+            Refusal::RegisterFull => 18,
+            Refusal::RegisterDamaged => 19,
         }
     }
 }

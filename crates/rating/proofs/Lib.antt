@@ -1,4 +1,5 @@
 -- Laws of the rating.
+pub mod Numbered
 pub mod Bridge
 pub mod Facts
 pub mod Meaning

@@ -1,11 +1,14 @@
--- Document 01, "Quantities and ranges": what each kind owns; and the spectra of "Sums of energies" (000, table 3.1.3).
+-- Document 01, "Quantities and ranges": what each kind owns; the spectra of "Sums of energies" (000, table 3.1.3); and kinds by
+-- their numbers.
 use mathlib.Core.Bool.{Bool, true, false}
 use mathlib.Core.List.{List, [], _∷_}
-use Prim.Native.Nat.{ℕ}
+use Prim.Native.Nat.{ℕ, zero, suc}
 use lib.IntN.{ℤ, pos, negℤ}
 use lib.ListN.{getD}
 use Rattle.rating.specs.declared.kinds.Kind.{Kind}
 use Rattle.rating.specs.declared.kinds.Kind.the-variants.{A3, A1, I3, I1}
+use Rattle.rating.specs.declared.kinds.Named.{Named}
+use Rattle.rating.specs.declared.kinds.Named.the-variants.{Is, Unknown}
 
 abbrev pub neg : ℕ → ℤ
 neg n = negℤ (pos n)
@@ -58,3 +61,18 @@ C k i = getD (spectraC k) i (pos 0)
 
 unfoldable pub Ctr : Kind → ℕ → ℤ
 Ctr k i = getD (spectraCtr k) i (pos 0)
+
+-- the kind of a number
+abbrev pub kindOf : ℕ → Named
+kindOf zero = Is A3
+kindOf (suc zero) = Is A1
+kindOf (suc (suc zero)) = Is I3
+kindOf (suc (suc (suc zero))) = Is I1
+kindOf (suc (suc (suc (suc n)))) = Unknown
+
+-- and the number of a kind
+abbrev pub kindNumber : Kind → ℕ
+kindNumber A3 = 0
+kindNumber A1 = 1
+kindNumber I3 = 2
+kindNumber I1 = 3

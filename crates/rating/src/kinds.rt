@@ -12,7 +12,7 @@ use curve::Position;
 ghost use mathlib.Core.Path.{_≡_};
 ghost use Prim.Native.Nat.{_+_, _*_, _/_, _<_};
 ghost use Rattle.curve.specs.Bands.{anyTo, bit};
-ghost use Rattle.rating.specs.Kinds.{bandsOf};
+ghost use Rattle.rating.specs.Kinds.{bandsOf, kindOf, kindNumber};
 ghost use Rattle.rating.specs.Numbers.{startAdd, entriesOf, firstOf, secondOf, numbersOf};
 
 pub enum Kind {
@@ -20,6 +20,12 @@ pub enum Kind {
     A1,
     I3,
     I1,
+}
+
+// What a number says: a kind, or none.
+pub enum Named {
+    Is(Kind),
+    Unknown,
 }
 
 // What the shared rating asks of a kind.
@@ -354,6 +360,37 @@ impl I1Kind {
             first: [1500; 16],
             second: [1500; 16],
         }
+    }
+}
+
+// The kind of a number: 0 A3, 1 A1, 2 I3, 3 I1.
+pub fn kind_of(number: u32) -> Named
+    ensures { λ r. ⌜ r ≡ kindOf number ⌝ }
+{
+    if number == 0 {
+        return Named::Is(Kind::A3);
+    }
+    if number == 1 {
+        return Named::Is(Kind::A1);
+    }
+    if number == 2 {
+        return Named::Is(Kind::I3);
+    }
+    if number == 3 {
+        return Named::Is(Kind::I1);
+    }
+    Named::Unknown
+}
+
+// The number of a kind.
+pub fn kind_number(kind: Kind) -> u8
+    ensures { λ r. ⌜ r ≡ kindNumber kind ⌝ }
+{
+    match kind {
+        Kind::A3 => 0,
+        Kind::A1 => 1,
+        Kind::I3 => 2,
+        Kind::I1 => 3,
     }
 }
 

@@ -4,10 +4,10 @@ use mathlib.Core.Bool.{Bool, true, false, cond, _&&_}
 use mathlib.Core.List.{List, [], _∷_}
 use Prim.Native.Nat.{ℕ, zero, suc, _+_, _-_, _≤_, _<_, suc-le-suc}
 use native.Mathlib.Omega.{arith}
-use borrow.Author.Tests.{le-leb, lt-leb, leb-true, leb-false, eq-eqb, ne-eqb}
+use borrow.Author.Tests.{le-leb, lt-leb, leb-true}
 use lib.Dec.{leb, T}
 use lib.ListN.{length}
-use Rattle.request.specs.Texts.{between, keyByte}
+use Rattle.quantity.specs.Keys.{between}
 use Rattle.request.specs.Reading.{byteAt, digitOf}
 
 pub inside : (s : List ℕ) (i : ℕ) → 0 < byteAt s i → i < length s
@@ -61,47 +61,3 @@ inside-byte s at b e h = inside s at (omega arith)
 
 pub inside-digit : (s : List ℕ) (at b d : ℕ) → b ≡ byteAt s at → d ≡ digitOf b → d < 10 → at < length s
 inside-digit s at b d e f h = inside-byte s at b e (omega (arith, digit-read b (omega arith)))
-
--- the bytes of a key, by the tests of the code in order
-module _ (b : ℕ) where
-  pub key-hyphen : b ≡ 45 → true ≡ keyByte b
-  unfolding keyByte
-  key-hyphen h = simp (eq-eqb b 45 h)
-
-  pub key-low : (b ≡ 45 → ⊥) → b < 48 → false ≡ keyByte b
-  unfolding keyByte
-  key-low f h = simp (ne-eqb b 45 f, lt-leb 48 b h, lt-leb 65 b (omega arith), lt-leb 97 b (omega arith))
-
-  pub key-digit : (b ≡ 45 → ⊥) → 48 ≤ b → b ≤ 57 → true ≡ keyByte b
-  unfolding keyByte
-  key-digit f h k = simp (ne-eqb b 45 f, le-leb 48 b h, le-leb b 57 k)
-
-  pub key-middle : 57 < b → b < 65 → false ≡ keyByte b
-  unfolding keyByte
-  key-middle h k = simp (ne-eqb b 45 (omega arith), le-leb 48 b (omega arith), lt-leb b 57 h, lt-leb 65 b k, lt-leb 97 b (omega arith))
-
-  pub key-capital : 65 ≤ b → b ≤ 90 → true ≡ keyByte b
-  unfolding keyByte
-  key-capital h k = simp (ne-eqb b 45 (omega arith), le-leb 48 b (omega arith), lt-leb b 57 (omega arith), le-leb 65 b h, le-leb b 90 k)
-
-  pub key-between : 90 < b → b < 97 → false ≡ keyByte b
-  unfolding keyByte
-  key-between h k =
-      simp (ne-eqb b 45 (omega arith), le-leb 48 b (omega arith), lt-leb b 57 (omega arith), le-leb 65 b (omega arith), lt-leb b 90 h, lt-leb 97 b k)
-
-  pub key-small : 97 ≤ b → leb b 122 ≡ keyByte b
-  unfolding keyByte
-  key-small h =
-      simp (ne-eqb b 45 (omega arith), le-leb 48 b (omega arith), lt-leb b 57 (omega arith), le-leb 65 b (omega arith), lt-leb b 90 (omega arith), le-leb 97 b h)
-
--- a byte of a key is neither 0 nor a tab nor a line feed
-pub key-range : (b : ℕ) → keyByte b ≡ true → 45 ≤ b
-unfolding keyByte
-key-range b e = go (leb 45 b) refl
-  where
-    go : (t : Bool) → leb 45 b ≡ t → 45 ≤ b
-    go true p = leb-true 45 b p
-    go false p =
-        let h : b < 45 = leb-false 45 b p in
-        let k : _≡_ {A = Bool} false true = key-low b (omega arith) (omega arith) ∙ e in
-        absurd (subst T (sym k) tt)

@@ -1,9 +1,9 @@
--- `door::kinds::kind_of` meets its contract. Assumes nothing.
+-- `rating::kinds::kind_of` meets its contract. Assumes nothing.
 use mathlib.Core.Path.{sym, ap}
-use Rattle.door.specs.Kinds.{kindOf}
-use Rattle.door.proofs.Doors.{unknown}
-use Rattle.door.proofs.kinds.kind_of.Statement.{statement}
-use Rattle.door.proofs.kinds.kind_of.Tie as tie
+use Rattle.rating.specs.Kinds.{kindOf}
+use Rattle.rating.proofs.Numbered.{unknown}
+use Rattle.rating.proofs.kinds.kind_of.Statement.{statement}
+use Rattle.rating.proofs.kinds.kind_of.Tie as tie
 
 returns : tie.Need-returns
 returns c = ap kindOf (sym (c .if1 .taken))

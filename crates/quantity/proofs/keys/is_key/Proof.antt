@@ -1,7 +1,7 @@
--- `line::bytes::is_key` meets its contract: the tests go up through the bytes. Assumes nothing.
-use Rattle.request.proofs.Leaves.{key-hyphen, key-low, key-digit, key-middle, key-capital, key-between, key-small}
-use Rattle.request.proofs.bytes.is_key.Statement.{statement}
-use Rattle.request.proofs.bytes.is_key.Tie as tie
+-- `quantity::keys::is_key` meets its contract: the tests go up through the bytes. Assumes nothing.
+use Rattle.quantity.proofs.Shapes.{key-hyphen, key-low, key-digit, key-middle, key-capital, key-between, key-small}
+use Rattle.quantity.proofs.keys.is_key.Statement.{statement}
+use Rattle.quantity.proofs.keys.is_key.Tie as tie
 
 returns : tie.Need-returns
 returns c = key-hyphen (c .before .args .b) (c .if1 .taken)

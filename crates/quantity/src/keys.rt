@@ -1,0 +1,48 @@
+// The key of a request: its bytes and its shape.
+ghost use mathlib.Core.Path.{_≡_};
+ghost use Rattle.quantity.specs.Keys.{keyByte, keyShape};
+
+// Whether a byte may stand in a key: an ASCII letter, a digit or a hyphen.
+pub fn is_key(b: u8) -> bool
+    ensures { λ r. ⌜ r ≡ keyByte b ⌝ }
+{
+    if b == 45 {
+        return true;
+    }
+    if b < 48 {
+        return false;
+    }
+    if b <= 57 {
+        return true;
+    }
+    if b < 65 {
+        return false;
+    }
+    if b <= 90 {
+        return true;
+    }
+    if b < 97 {
+        return false;
+    }
+    b <= 122
+}
+
+// Whether a text has the shape of a key: 1 to 32 such bytes.
+pub fn is_key_of(key: &[u8]) -> bool
+    ensures { λ r. ⌜ r ≡ keyShape (now (key .entry)) ⌝ }
+{
+    if key.len() < 1 {
+        return false;
+    }
+    if 32 < key.len() {
+        return false;
+    }
+    let mut i = 0;
+    while i < key.len() {
+        if !is_key(key[i]) {
+            return false;
+        }
+        i += 1;
+    }
+    true
+}
