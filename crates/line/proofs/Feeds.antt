@@ -9,14 +9,15 @@ use borrow.Author.Tests.{ne-eqb, eqb-true}
 use lib.Dec.{ltb, eqb}
 use lib.IntN.{ℤ, pos, negsuc}
 use lib.ListN.{length, take, drop, length-append}
+use Rattle.quantity.specs.Keys.{KeyBytes}
+use Rattle.quantity.proofs.Shapes.{key-range}
 use Rattle.rating.specs.declared.kinds.Kind.{Kind}
 use Rattle.rating.specs.declared.kinds.Kind.the-variants.{A3, A1, I3, I1}
 use Rattle.answer.specs.Texts.{others, lineText, decimal, decimalBy, kindText}
-use Rattle.request.specs.Texts.{figureText, levelText, bandText, KeyBytes, Band, requestText}
+use Rattle.request.specs.Texts.{figureText, levelText, bandText, Band, requestText}
 use Rattle.request.specs.Texts.Band.{missing, level}
 use Rattle.line.specs.Answers.{joined, linesOf}
 use Rattle.line.specs.Blocks.{oneMore, feedIn, movedBy, afterFeed}
-use Rattle.request.proofs.Leaves.{key-range}
 use Rattle.line.proofs.Turns.{feed-cons}
 
 abbrev pub oneFor : ℕ → ℕ

@@ -9,12 +9,14 @@ use lib.Dec.{ltb, eqb}
 use lib.IntN.{ℤ, pos, negℤ, _-ℤ_}
 use lib.ListN.{length, drop}
 use Rattle.laws.proofs.Ints.{ints, minus, opposite, eq-made, apart}
+use Rattle.quantity.specs.Keys.{between, keyByte}
 use Rattle.quantity.specs.Quantities.{inRange}
 use Rattle.quantity.proofs.Rim.{range-yes}
+use Rattle.quantity.proofs.Shapes.{key-range}
 use Rattle.quantity.specs.declared.quantities.Tenths.{Tenths}
 use Rattle.quantity.specs.declared.refusals.Refusal.the-variants.{BandRange}
 use Rattle.quantity.specs.declared.refusals.Outcome.the-variants.{Accepted, Refused}
-use Rattle.request.specs.Texts.{Band, between, keyByte}
+use Rattle.request.specs.Texts.{Band}
 use Rattle.request.specs.Texts.Band.{missing, level}
 use Rattle.request.specs.declared.bands.Field.{Field}
 use Rattle.request.specs.declared.bands.Figure.{Figure}
@@ -27,7 +29,7 @@ use Rattle.request.specs.declared.heads.Named.the-variants as named
 use Rattle.rating.specs.declared.kinds.Kind.the-variants.{A3, A1, I3, I1}
 use Rattle.request.specs.Reading.Found.{found}
 use Rattle.request.specs.Gathering.{Small, Short, fieldOf}
-use Rattle.request.proofs.Leaves.{inside, Digit, digit-yes, digit-beside, digit-read, key-range}
+use Rattle.request.proofs.Leaves.{inside, Digit, digit-yes, digit-beside, digit-read}
 
 module _ (s : List ℕ) (at whole : ℕ) where
   pub tenth-got : (d : ℕ) → d ≡ digitAt s at → d < 10 → Read (10 * whole + d) (at + 1) ≡ tenthAt s at whole

@@ -6,13 +6,14 @@ use Prim.Native.Nat.{ℕ, zero, suc, _+_, _*_, _-_}
 use lib.Dec.{leb, ltb, eqb}
 use lib.IntN.{pos, negℤ}
 use lib.ListN.{length, getD, take, drop}
+use Rattle.quantity.specs.Keys.{between, keyByte}
 use Rattle.rating.specs.declared.kinds.Kind.{Kind}
 use Rattle.rating.specs.declared.kinds.Kind.the-variants.{A3, A1, I3, I1}
 use Rattle.request.specs.declared.bands.Figure.{Figure}
 use Rattle.request.specs.declared.bands.Figure.the-variants.{Read, Nothing}
 use Rattle.request.specs.declared.heads.Named.{Named}
 use Rattle.request.specs.declared.heads.Named.the-variants as named
-use Rattle.request.specs.Texts.{Band, between, keyByte}
+use Rattle.request.specs.Texts.{Band}
 use Rattle.request.specs.Texts.Band.{missing, level}
 
 abbrev pub byteAt : List ℕ → ℕ → ℕ

@@ -1,30 +1,11 @@
 -- Document 01, "Request and answer lines": the text of a request, as a list of bytes.
-use mathlib.Core.Bool.{Bool, true, false, _&&_, _||_}
+use mathlib.Core.Bool.{Bool, true, false}
 use mathlib.Core.List.{List, [], _∷_, _++_, map}
-use mathlib.Core.Path.{_≡_}
 use Prim.Native.Nat.{ℕ, suc, _+_, _/_, _%_, _≤_}
-use lib.Dec.{leb, eqb}
 use lib.IntN.{ℤ, pos, negsuc}
-use lib.ListN.{length}
 use Rattle.laws.specs.Parts.{P, N}
 use Rattle.rating.specs.declared.kinds.Kind.{Kind}
 use Rattle.answer.specs.Texts.{lineText, decimal, kindText}
-
--- "Key: 1 to 32 of ASCII letters, digits, hyphen."
-abbrev pub between : ℕ → ℕ → ℕ → Bool
-between lo hi b = leb lo b && leb b hi
-
-unfoldable pub keyByte : ℕ → Bool
-keyByte b = eqb b 45 || (between 48 57 b || (between 65 90 b || between 97 122 b))
-
-pub data KeyBytes : List ℕ → Type 0 where
-  none : KeyBytes []
-  more : {b : ℕ} {key : List ℕ} → keyByte b ≡ true → KeyBytes key → KeyBytes (b ∷ key)
-
-pub record KeyOk (key : List ℕ) : Type 0 where
-  pub some : 1 ≤ length key
-  pub most : length key ≤ 32
-  pub each : KeyBytes key
 
 -- a band: missing, or whether it is a limit value and its tenths
 pub data Band : Type 0 where

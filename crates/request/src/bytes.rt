@@ -1,6 +1,6 @@
 // Single bytes of a line.
 ghost use mathlib.Core.Path.{_≡_};
-ghost use Rattle.request.specs.Texts.{between, keyByte};
+ghost use Rattle.quantity.specs.Keys.{between};
 ghost use Rattle.request.specs.Reading.{byteAt, digitOf};
 
 // The byte at a position; 0 past the end.
@@ -28,29 +28,4 @@ pub fn digit(b: u8) -> u32
         return (b - 48) as u32;
     }
     10
-}
-
-// Whether a byte may stand in a key: an ASCII letter, a digit or a hyphen.
-pub fn is_key(b: u8) -> bool
-    ensures { λ r. ⌜ r ≡ keyByte b ⌝ }
-{
-    if b == 45 {
-        return true;
-    }
-    if b < 48 {
-        return false;
-    }
-    if b <= 57 {
-        return true;
-    }
-    if b < 65 {
-        return false;
-    }
-    if b <= 90 {
-        return true;
-    }
-    if b < 97 {
-        return false;
-    }
-    b <= 122
 }

@@ -1,6 +1,6 @@
 // The head of a request: its kind and its key.
 use crate::bytes::byte;
-use crate::bytes::is_key;
+use quantity::is_key;
 use rating::Kind;
 ghost use mathlib.Core.Path.{_≡_};
 ghost use Prim.Native.Nat.{_≤_};
