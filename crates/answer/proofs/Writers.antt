@@ -12,7 +12,7 @@ use lib.Seq.{length-take-le, take-suc, getD-drop}
 use Rattle.laws.specs.Parts.{P, N}
 use Rattle.quantity.specs.Refusals.{numberOf}
 use Rattle.quantity.specs.declared.refusals.Refusal.{Refusal}
-use Rattle.quantity.specs.declared.refusals.Refusal.the-variants.{BandCount, NotFinite, NoReading, BandRange, Background, DerivedRange, TimeRange, NotBetter, TargetRange, NoRoom, NotRequest, SpecimenCount}
+use Rattle.quantity.specs.declared.refusals.Refusal.the-variants.{BandCount, NotFinite, NoReading, BandRange, Background, DerivedRange, TimeRange, NotBetter, TargetRange, NoRoom, NotRequest, SpecimenCount, PriceRange, OtherBands, RegisterFull, RegisterDamaged}
 use Rattle.rating.specs.declared.sheets.Sheet.{Sheet}
 use Rattle.answer.specs.Texts.{others, lineText, decimal, numberText, termText, setText, sheetFields, noRequestText, front}
 use Rattle.answer.proofs.Decimals.{decimal-one, decimal-more}
@@ -91,6 +91,10 @@ number-small TargetRange = omega arith
 number-small NoRoom = omega arith
 number-small NotRequest = omega arith
 number-small SpecimenCount = omega arith
+number-small PriceRange = omega arith
+number-small OtherBands = omega arith
+number-small RegisterFull = omega arith
+number-small RegisterDamaged = omega arith
 
 -- a key, byte by byte
 module _ (s l : List ℕ) (key len : ℕ) (within : key + len ≤ length s) (room : len ≤ length l) where
