@@ -1,10 +1,12 @@
 -- Document 01, "Request and answer lines".
 
 -- the texts of requests and of answers
-pub use Rattle.request.specs.Texts.{Band, KeyOk, BandOk}
+pub use Rattle.quantity.specs.Keys.{KeyOk}
+unfoldable pub use Rattle.quantity.specs.Keys.{keyByte}
+pub use Rattle.request.specs.Texts.{Band, BandOk}
 pub use Rattle.answer.specs.Texts.{kindText}
 unfoldable pub use Rattle.answer.specs.Texts.{lineText, decimal, numberText, ratedText, noRequestText}
-unfoldable pub use Rattle.request.specs.Texts.{keyByte, levelText, bandText, requestText}
+unfoldable pub use Rattle.request.specs.Texts.{levelText, bandText, requestText}
 -- the request that a line is, and its answer
 pub use Rattle.request.specs.Reading.{Request}
 unfoldable pub use Rattle.request.specs.Reading.{requestOf}

@@ -1,5 +1,5 @@
--- Document 01, "Refusal numbers": the twelve, and "bands from the lowest, each 3, 2, 4". The order of each call stands in its
--- own definition.
+-- Document 01, "Refusal numbers": the twelve, with 16 to 19 of document 02, request (x); and "bands from the lowest, each 3, 2,
+-- 4". The order of each call stands in its own definition.
 pub use Rattle.quantity.specs.declared.refusals.Refusal.{Refusal}
 pub use Rattle.quantity.specs.Refusals.{numberOf, orElse}
 pub use Rattle.quantity.specs.declared.refusals.Outcome.{Outcome}
