@@ -16,21 +16,20 @@ use Rattle.quantity.specs.declared.refusals.Refusal.{Refusal}
 use Rattle.quantity.specs.declared.refusals.Refusal.the-variants.{NotBetter, TargetRange, NoRoom}
 use Rattle.rating.specs.declared.kinds.Kind.{Kind}
 use Rattle.rating.specs.declared.kinds.Kind.the-variants.{A3, A1, I3, I1}
+use Rattle.rating.specs.declared.kinds.Named.{Named}
+use Rattle.rating.specs.declared.kinds.Named.the-variants.{Is, Unknown}
 use Rattle.rating.specs.declared.sheets.Rated.{Rated}
 use Rattle.rating.specs.declared.sheets.Rated.the-variants.{Rating, Refused as Unrated}
-use Rattle.rating.specs.Kinds.{airborne}
+use Rattle.rating.specs.Kinds.{airborne, kindOf}
 use Rattle.rating.specs.Sheets.{ratedOf}
 use Rattle.lift.specs.declared.lists.Lifted.{Lifted}
 use Rattle.lift.specs.declared.lists.Lifted.the-variants.{Count, Refused}
 use Rattle.lift.specs.Reach.{betterBy, liftList}
 use Rattle.lift.specs.Calls.{inTargets, placesOf, tested, countOf, answerBy, answerOf, bufferBy, countAnswer}
 use Rattle.lift.proofs.Listing.{list-room}
-use Rattle.door.specs.declared.kinds.Named.{Named}
-use Rattle.door.specs.declared.kinds.Named.the-variants.{Is, Unknown}
 use Rattle.quantity.specs.Answers.{Answer}
 use Rattle.door.specs.Answers.{returned, held}
 use Rattle.quantity.specs.Answers.Answer.{numbers}
-use Rattle.door.specs.Kinds.{kindOf}
 use Rattle.door.specs.Lists.{setFrom}
 use Rattle.door.proofs.Fronts.{stored}
 use Rattle.desk_c.specs.Ratings.{byKind}

@@ -2,8 +2,8 @@
 use mathlib.Core.Path.{_≡_, sym, ap}
 use lib.IntN.{ℤ}
 use Rattle.rating.specs.declared.kinds.Kind.{Kind}
-use Rattle.door.specs.declared.kinds.Named.{Named}
-use Rattle.door.specs.declared.kinds.Named.the-variants.{Is, Unknown}
+use Rattle.rating.specs.declared.kinds.Named.{Named}
+use Rattle.rating.specs.declared.kinds.Named.the-variants.{Is, Unknown}
 use Rattle.quantity.specs.Answers.{Answer}
 use Rattle.quantity.specs.Answers.Answer.{refused}
 use Rattle.desk_c.specs.Ratings.{byKind}

@@ -8,12 +8,12 @@ use lib.ListN.{length}
 use Rattle.quantity.specs.Quantities.{bandOf}
 use Rattle.quantity.specs.declared.quantities.BandSet.{BandSet}
 use Rattle.rating.specs.declared.kinds.Kind.{Kind}
+use Rattle.rating.specs.declared.kinds.Named.{Named}
+use Rattle.rating.specs.declared.kinds.Named.the-variants.{Is, Unknown}
+use Rattle.rating.specs.Kinds.{kindOf}
 use Rattle.lift.specs.Reach.{liftList}
 use Rattle.lift.specs.Calls.{answerOf, bufferBy, countAnswer}
-use Rattle.door.specs.declared.kinds.Named.{Named}
-use Rattle.door.specs.declared.kinds.Named.the-variants.{Is, Unknown}
 use Rattle.quantity.specs.Answers.{Answer}
-use Rattle.door.specs.Kinds.{kindOf}
 use Rattle.door.specs.Lists.{setFrom}
 use Rattle.desk_c.specs.Ratings.{byKind}
 

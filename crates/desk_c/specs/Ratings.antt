@@ -6,12 +6,12 @@ use lib.Ieee.{Float}
 use lib.ListN.{length}
 use Rattle.intake.specs.Taken.{takenOf, takenAnswer}
 use Rattle.rating.specs.declared.kinds.Kind.{Kind}
+use Rattle.rating.specs.declared.kinds.Named.{Named}
+use Rattle.rating.specs.declared.kinds.Named.the-variants.{Is, Unknown}
+use Rattle.rating.specs.Kinds.{kindOf}
 use Rattle.rating.specs.Sheets.{ratedOf, ratedAnswer}
-use Rattle.door.specs.declared.kinds.Named.{Named}
-use Rattle.door.specs.declared.kinds.Named.the-variants.{Is, Unknown}
 use Rattle.quantity.specs.Answers.{Answer}
 use Rattle.quantity.specs.Answers.Answer.{refused}
-use Rattle.door.specs.Kinds.{kindOf}
 use Rattle.door.specs.Lists.{setFrom, readingFrom, readingsFrom}
 use Rattle.desk.specs.Calls.{readingsRated}
 

@@ -13,7 +13,7 @@ use Rattle.means.specs.Sets.{octavesOf, specimensOf}
 use Rattle.products.specs.Covers.{coverOf, improvementAnswer}
 use Rattle.products.specs.Grades.{gradesOf, gradedAnswer}
 use Rattle.quantity.specs.Answers.{Answer}
-use Rattle.door.specs.Kinds.{sideOf}
+use Rattle.door.specs.Sides.{sideOf}
 use Rattle.door.specs.Lists.{setFrom, readingsFrom}
 use Rattle.intake.specs.Taken.{takenAnswer}
 use Rattle.measurement.specs.Lists.{intakeAnswer}

@@ -1,11 +1,11 @@
 // The lift list.
-use door::Named;
-use door::kind_of;
 use door::set_from;
 use lift::Lifted;
 use quantity::BandSet;
 use quantity::Decibels;
 use rating::Kind;
+use rating::Named;
+use rating::kind_of;
 ghost use mathlib.Core.Path.{_≡_};
 ghost use lib.ListN.{length};
 ghost use Rattle.lift.specs.Calls.{answerOf, countAnswer};

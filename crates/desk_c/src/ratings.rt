@@ -1,11 +1,11 @@
 // Readings and ratings.
-use door::Named;
 use door::give_rated;
 use door::give_taken;
-use door::kind_of;
 use door::reading_from;
 use door::readings_from;
 use door::set_from;
+use rating::Named;
+use rating::kind_of;
 ghost use mathlib.Core.Path.{_≡_};
 ghost use lib.ListN.{length};
 ghost use Rattle.door.specs.Answers.{returned, held};

@@ -1,5 +1,5 @@
--- What the C door adds to the definitions: numbers for kinds and readings, and answers in lent arrays.
+-- What the C door adds to the definitions: numbers for sides and readings, and answers in lent arrays.
 pub mod Answers
-pub mod Kinds
+pub mod Sides
 pub mod Lists
 pub mod Given

@@ -1,8 +1,8 @@
-// What the C calls of `desk_c` are made of: kinds and sides by their numbers, readings and sets out of lent arrays, and the
-// numbers of each answer put into a lent array. Nothing here is called from C.
+// What the C calls of `desk_c` are made of: sides by their numbers, readings and sets out of lent arrays, and the numbers of
+// each answer put into a lent array. Nothing here is called from C.
 mod given;
-mod kinds;
 mod lists;
+mod sides;
 
 pub use given::give_cover;
 pub use given::give_graded;
@@ -10,9 +10,7 @@ pub use given::give_level;
 pub use given::give_rated;
 pub use given::give_set;
 pub use given::give_taken;
-pub use kinds::Named;
-pub use kinds::kind_of;
-pub use kinds::side_of;
 pub use lists::reading_from;
 pub use lists::readings_from;
 pub use lists::set_from;
+pub use sides::side_of;

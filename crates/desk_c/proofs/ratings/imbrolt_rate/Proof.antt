@@ -2,7 +2,7 @@
 use borrow.Author.Needs.{needs}
 use mathlib.Core.Path.{sym, _∙_, ap}
 use Rattle.rating.specs.Sheets.{ratedOf, ratedAnswer}
-use Rattle.door.specs.Kinds.{kindOf}
+use Rattle.rating.specs.Kinds.{kindOf}
 use Rattle.door.specs.Lists.{setFrom}
 use Rattle.door.proofs.Gives.{given, refuses}
 use Rattle.desk_c.specs.Ratings.{rateAnswer}

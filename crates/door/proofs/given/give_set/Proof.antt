@@ -3,9 +3,9 @@ use borrow.Author.Needs.{needs}
 use mathlib.Core.Path.{sym, _∙_, ap}
 use Prim.Native.Nat.{_+_}
 use lib.ListN.{take}
-use Rattle.quantity.specs.Answers.Answer.{numbers}
+use Rattle.quantity.specs.Answers.Answer.{refused, numbers}
 use Rattle.measurement.specs.Lists.{setAnswer, intakeAnswer}
-use Rattle.door.proofs.Gives.{given}
+use Rattle.door.proofs.Gives.{given, refuses}
 use Rattle.door.proofs.given.give_set.Statement.{statement}
 use Rattle.door.proofs.given.give_set.Tie as tie
 
@@ -28,7 +28,10 @@ give-requires : tie.Need-give-requires
 give-requires c κs = search needs
 
 returns : tie.Need-returns
-returns c = search needs
+returns c =
+    let a = c .before .before .before .before .args in
+    refuses (intakeAnswer (a .intake) (a .n)) (c .number .result) (a .out .now)
+    (ap refused (c .number .ensures) ∙ ap (setAnswer (a .intake .set) (a .n)) (sym (c .before .before .outcome .given .1)))
 
 same-length : tie.Need-same-length
 same-length c = search needs

@@ -1,8 +1,8 @@
--- `door::kinds::side_of` meets its contract. Assumes nothing.
+-- `door::sides::side_of` meets its contract. Assumes nothing.
 use borrow.Author.Needs.{needs}
 use Rattle.door.proofs.Doors.{inside}
-use Rattle.door.proofs.kinds.side_of.Statement.{statement}
-use Rattle.door.proofs.kinds.side_of.Tie as tie
+use Rattle.door.proofs.sides.side_of.Statement.{statement}
+use Rattle.door.proofs.sides.side_of.Tie as tie
 
 returns : tie.Need-returns
 returns c = search needs
