@@ -4,3 +4,4 @@ pub mod Floor
 pub mod Extremes
 pub mod Sums
 pub mod Table
+pub mod Lists

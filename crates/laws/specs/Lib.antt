@@ -2,3 +2,4 @@
 pub mod Parts
 pub mod Extremes
 pub mod Sums
+pub mod Lists

@@ -70,12 +70,12 @@ shifts-true k s acc p h =
     ∙ shifts-distance k (bandOf s)
 
 -- ---- what lies past the stated length does not matter
-all-same : (f g : ℕ → Bool) (n : ℕ) → ((i : ℕ) → i < n → f i ≡ g i) → allTo f n ≡ allTo g n
+pub all-same : (f g : ℕ → Bool) (n : ℕ) → ((i : ℕ) → i < n → f i ≡ g i) → allTo f n ≡ allTo g n
 unfolding allTo
 all-same f g zero h = refl
 all-same f g (suc n) h = ap₂ _&&_ (all-same f g n (λ i q. h i (omega arith))) (h n (le-refl (suc n)))
 
-any-same : (f g : ℕ → Bool) (n : ℕ) → ((i : ℕ) → i < n → f i ≡ g i) → anyTo f n ≡ anyTo g n
+pub any-same : (f g : ℕ → Bool) (n : ℕ) → ((i : ℕ) → i < n → f i ≡ g i) → anyTo f n ≡ anyTo g n
 unfolding anyTo
 any-same f g zero h = refl
 any-same f g (suc n) h = ap₂ _||_ (any-same f g n (λ i q. h i (omega arith))) (h n (le-refl (suc n)))

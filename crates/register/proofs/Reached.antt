@@ -1,0 +1,250 @@
+-- 19 is given to exactly the registers that no calls could have left so: what calls leave is sound, and a sound register is
+-- left by the calls that its entries tell of, up to what never matters. Registers that differ only there stay so under every
+-- call. Assumes nothing.
+use mathlib.Core.Path.{_≡_, refl, sym, _∙_, ap, ap₂, subst⁻¹}
+use mathlib.Core.Bool.{Bool, true, false, _&&_, not, cond}
+use mathlib.Core.List.{List}
+use Prim.Native.Nat.{ℕ, zero, suc, _+_, _%_, _^_, _≤_, _<_}
+use native.Mathlib.Nat.{le-refl, zero-add, mod-mod}
+use native.Mathlib.Numerals.{add-one}
+use native.Mathlib.Decide.{ℕ-discrete}
+use native.Mathlib.Omega.{arith}
+use borrow.Author.Tests.{lt-ltb, leb-true, not-true}
+use lib.Dec.{eqb, leb, ltb}
+use lib.ListN.{length, getD, take}
+use lib.Seq.{length-take-le}
+use Rattle.laws.specs.Lists.{listed}
+use Rattle.quantity.specs.Keys.{keyShape}
+use Rattle.quantity.specs.Quantities.{priced}
+use Rattle.curve.specs.Bands.{allTo, anyTo}
+use Rattle.curve.proofs.Walks.{all-at}
+use Rattle.rating.specs.declared.kinds.Kind.{Kind}
+use Rattle.rating.specs.declared.kinds.Kind.the-variants.{A3}
+use Rattle.rating.specs.declared.kinds.Named.{Named}
+use Rattle.rating.specs.declared.kinds.Named.the-variants.{Is, Unknown}
+use Rattle.rating.specs.declared.sheets.Sheet.{Sheet}
+use Rattle.rating.specs.declared.sheets.Rated.{Rated}
+use Rattle.rating.specs.declared.sheets.Rated.the-variants.{Rating, Refused}
+use Rattle.rating.specs.Kinds.{bandsOf, kindOf, kindNumber}
+use Rattle.rating.specs.Sheets.{ratedOf}
+use Rattle.rating.proofs.Numbered.{kind-of-number, kind-number-of}
+use Rattle.rating.proofs.Theorems.{any-same}
+use Rattle.register.specs.declared.entries.Entry.{Entry}
+use Rattle.register.specs.declared.entries.Register.{Register}
+use Rattle.register.specs.Entries.{keyOf, valueOf, setOf, bandsBy, bandsIn, marksTo, sameKey, isSheet, ratable, keyed, entryOk, Call, callOf, keptValue, entryOf}
+use Rattle.register.specs.Registers.{opened, entryAt, repeated, sound, known, held, withEntry, dueOf, placeDue, afterBy, afterOf, Due}
+use Rattle.register.specs.Registers.Due.{refuse, repeat, enter}
+use Rattle.register.specs.Histories.{Calls, left, SameEntry, SameRegister, CouldBeLeft, Full}
+use Rattle.register.specs.Histories.Calls.{start, next}
+use Rattle.register.proofs.Grown.{Grown, left-grown, key-kept, value-kept, entry-old, entry-new}
+use Rattle.register.proofs.Histories.{after-is, held-known}
+use Rattle.register.proofs.Sameness.{same-entry, key-alike, sound-same, due-same}
+use Rattle.register.proofs.Seen.{Taken, Seen, seen, due-placed, place-free}
+use Rattle.register.proofs.Seen.Seen.{turned, retried, added}
+use Rattle.register.proofs.Tests.{never, refuted, both}
+
+-- ---- registers that differ only in what never matters stay so
+
+-- one more entry on both
+with-same : (r s : Register) (e f : Entry) → SameRegister r s → SameEntry e f → r .count < length (r .entries) → s .count < length (s .entries)
+    → SameRegister (withEntry r e) (withEntry s f)
+unfolding withEntry
+with-same r s e f a b h g = record { count = ap (λ (n : ℕ). n + 1) (a .count); entries = each }
+  where
+    last : (i : ℕ) → i ≡ r .count → SameEntry (entryAt (withEntry r e) i) (entryAt (withEntry s f) i)
+    last i q =
+        subst⁻¹ (λ (j : ℕ). SameEntry (entryAt (withEntry r e) j) (entryAt (withEntry s f) i)) q
+        (subst⁻¹ (λ (j : ℕ). SameEntry (entryAt (withEntry r e) (r .count)) (entryAt (withEntry s f) j)) (q ∙ a .count)
+        (subst⁻¹ (λ (d : Entry). SameEntry d (entryAt (withEntry s f) (s .count))) (entry-new r e h)
+        (subst⁻¹ (λ (d : Entry). SameEntry e d) (entry-new s f g) b)))
+
+    before : (i : ℕ) → i < r .count → SameEntry (entryAt (withEntry r e) i) (entryAt (withEntry s f) i)
+    before i q =
+        subst⁻¹ (λ (d : Entry). SameEntry d (entryAt (withEntry s f) i)) (entry-old r e i q)
+        (subst⁻¹ (λ (d : Entry). SameEntry (entryAt r i) d) (entry-old s f i (omega (arith, a .count))) (a .entries i q))
+
+    at : (i : ℕ) → i < r .count + 1 → Dec (i ≡ r .count) → SameEntry (entryAt (withEntry r e) i) (entryAt (withEntry s f) i)
+    at i q (yes p) = last i p
+    at i q (no p) = before i (omega arith)
+
+    each : (i : ℕ) → i < r .count + 1 → SameEntry (entryAt (withEntry r e) i) (entryAt (withEntry s f) i)
+    each i q = at i q (ℕ-discrete i (r .count))
+
+pub after-same : (r s : Register) (x : Call) → SameRegister r s → length (r .entries) ≡ 512 → length (s .entries) ≡ 512 → SameRegister (afterOf r x) (afterOf s x)
+after-same r s x a h g = go (seen r x)
+  where
+    kept : {d : Due} → dueOf r x ≡ d → afterBy d r (entryOf x) ≡ r → afterBy d s (entryOf x) ≡ s → SameRegister (afterOf r x) (afterOf s x)
+    kept {d} q e f =
+        subst⁻¹ (λ (u : Register). SameRegister u (afterOf s x)) (after-is r x q ∙ e)
+        (subst⁻¹ (λ (u : Register). SameRegister r u) (after-is s x (sym (due-same a x) ∙ q) ∙ f) a)
+
+    go : Seen r x → SameRegister (afterOf r x) (afterOf s x)
+    go (turned n d) = kept d refl refl
+    go (retried sheet t k d) = kept d refl refl
+    go (added sheet t k room d) =
+        subst⁻¹ (λ (u : Register). SameRegister u (afterOf s x)) (after-is r x d)
+        (subst⁻¹ (λ (u : Register). SameRegister (withEntry r (entryOf x)) u) (after-is s x (sym (due-same a x) ∙ d))
+        (with-same r s (entryOf x) (entryOf x) a (same-entry (entryOf x)) (omega (arith, h)) (omega (arith, g, a .count))))
+
+-- ---- the call that an entry tells of
+abbrev kindBy : Named → Kind
+kindBy (Is k) = k
+kindBy Unknown = A3
+
+abbrev callFrom : Entry → Call
+callFrom e = callOf (e .customer) (keyOf e) (kindBy (kindOf (e .kind))) (setOf (kindBy (kindOf (e .kind))) e) (e .price .0)
+
+-- what is known of an entry that passes
+record Passed (e : Entry) : Type 0 where
+  kind : kindOf (e .kind) ≡ Is (kindBy (kindOf (e .kind)))
+  sheet : Sheet
+  rated : ratedOf (kindBy (kindOf (e .kind))) (setOf (kindBy (kindOf (e .kind))) e) ≡ Rating sheet
+  price : priced (e .price .0) ≡ true
+  short : e .length ≤ 32
+  shape : keyShape (keyOf e) ≡ true
+
+passed : (e : Entry) → entryOk e ≡ true → Passed e
+unfolding entryOk
+passed e ok = by-kind (kindOf (e .kind)) refl
+  where
+    parts : (priced (e .price .0) ≡ true) × (ratable (kindOf (e .kind)) e && keyed e ≡ true)
+    parts = both (priced (e .price .0)) (ratable (kindOf (e .kind)) e && keyed e) ok
+
+    inner : (ratable (kindOf (e .kind)) e ≡ true) × (keyed e ≡ true)
+    inner = both (ratable (kindOf (e .kind)) e) (keyed e) (parts .1)
+
+    key : (leb (e .length) 32 ≡ true) × (keyShape (keyOf e) ≡ true)
+    key = both (leb (e .length) 32) (keyShape (keyOf e)) (inner .1)
+
+    by-sheet : (k : Kind) → kindOf (e .kind) ≡ Is k → (d : Rated) → ratedOf k (setOf k e) ≡ d → isSheet d ≡ true → Passed e
+    by-sheet k q (Rating sheet) p t =
+        let s : kindBy (kindOf (e .kind)) ≡ k = ap kindBy q in
+        record {
+          kind = q ∙ ap Is (sym s);
+          sheet = sheet;
+          rated = ap (λ (j : Kind). ratedOf j (setOf j e)) s ∙ p;
+          price = parts .0;
+          short = leb-true (e .length) 32 (key .0);
+          shape = key .1;
+        }
+    by-sheet k q (Refused refusal) p t = absurd (never t refl)
+
+    by-kind : (n : Named) → kindOf (e .kind) ≡ n → Passed e
+    by-kind (Is k) q =
+        by-sheet k q (ratedOf k (setOf k e)) refl (sym (ap (λ (n : Named). ratable n e) q) ∙ inner .0)
+    by-kind Unknown q = absurd (never (inner .0) (ap (λ (n : Named). ratable n e) q))
+
+-- its entry says the same
+told-same : (e : Entry) → Passed e → length (e .key) ≡ 32 → SameEntry (entryOf (callFrom e)) e
+unfolding entryOf
+told-same e p full = record {
+  customer = refl;
+  key = key-kept (callFrom e) within;
+  length = long;
+  kind = kinds;
+  values = λ i h. value-kept (callFrom e .set) (callFrom e .kind) i (below i h);
+  marks = ap (λ (n : ℕ). marksTo n (marksTo (bandsOf (callFrom e .kind)) (e .marks))) bands
+      ∙ mod-mod (e .marks) (2 ^ bandsOf (callFrom e .kind))
+      ∙ ap (λ (n : ℕ). marksTo n (e .marks)) (sym bands);
+  price = refl;
+}
+  where
+    long : length (keyOf e) ≡ e .length
+    long = length-take-le (e .length) (e .key) (omega (arith, full, p .short))
+
+    within : length (keyOf e) ≤ 32
+    within = omega (arith, long, p .short)
+
+    kinds : kindNumber (callFrom e .kind) ≡ e .kind
+    kinds = sym (kind-number-of (e .kind) (callFrom e .kind) (p .kind))
+
+    bands : bandsBy (kindOf (kindNumber (callFrom e .kind))) ≡ bandsOf (callFrom e .kind)
+    bands = ap bandsBy (kind-of-number (callFrom e .kind))
+
+    below : (i : ℕ) → i < bandsBy (kindOf (kindNumber (callFrom e .kind))) → i < bandsOf (callFrom e .kind)
+    below i h = omega (arith, bands)
+
+-- ---- the calls that a register tells of
+calls-of : Register → ℕ → Calls
+calls-of r zero = start
+calls-of r (suc n) = next (calls-of r n) (callFrom (entryAt r n))
+
+-- they have entered the first n of its entries
+record Entered (r : Register) (n : ℕ) (s : Register) : Type 0 where
+  count : s .count ≡ n
+  entries : (i : ℕ) → i < n → SameEntry (entryAt s i) (entryAt r i)
+
+module _ (r : Register) (whole : sound r ≡ true) (full : Full r) where
+  parts : (leb (r .count) 512 ≡ true) × ((allTo (λ i. entryOk (entryAt r i)) (r .count) ≡ true) × (allTo (λ i. not (repeated r i)) (r .count) ≡ true))
+  unfolding sound
+  parts =
+      let a = both (leb (r .count) 512) (allTo (λ i. entryOk (entryAt r i)) (r .count) && allTo (λ i. not (repeated r i)) (r .count)) whole in
+      (a .0, both (allTo (λ i. entryOk (entryAt r i)) (r .count)) (allTo (λ i. not (repeated r i)) (r .count)) (a .1))
+
+  pass : (n : ℕ) → n < r .count → Passed (entryAt r n)
+  pass n h = passed (entryAt r n) (all-at (λ i. entryOk (entryAt r i)) (r .count) (parts .1 .0) n h)
+
+  first : (n : ℕ) → n < r .count → repeated r n ≡ false
+  first n h = not-true (repeated r n) (all-at (λ i. not (repeated r i)) (r .count) (parts .1 .1) n h)
+
+  step : (n : ℕ) → n < r .count → Entered r n (left (calls-of r n)) → Entered r (suc n) (left (calls-of r (suc n)))
+  unfolding left calls-of known withEntry
+  step n h b = subst⁻¹ (Entered r (suc n)) (after-is s x due) (record { count = ap (λ (m : ℕ). m + 1) (b .count) ∙ add-one n; entries = each })
+    where
+      s : Register
+      s = left (calls-of r n)
+
+      x : Call
+      x = callFrom (entryAt r n)
+
+      p : Passed (entryAt r n)
+      p = pass n h
+
+      same : SameEntry (entryOf x) (entryAt r n)
+      same = told-same (entryAt r n) p (full .keys n h)
+
+      new : known s (entryOf x) ≡ false
+      new =
+          ap (anyTo (λ i. sameKey (entryAt s i) (entryOf x))) (b .count)
+          ∙ any-same (λ i. sameKey (entryAt s i) (entryOf x)) (λ i. sameKey (entryAt r i) (entryAt r n)) n (λ i q. key-alike (b .entries i q) same)
+          ∙ first n h
+
+      taken : Taken s x (p .sheet)
+      taken = record { whole = left-grown (calls-of r n) .whole; shape = p .shape; rated = p .rated; price = p .price }
+
+      room : s .count < 512
+      room = omega (arith, b .count, leb-true (r .count) 512 (parts .0))
+
+      due : dueOf s x ≡ enter (p .sheet)
+      due =
+          due-placed s x (p .sheet) taken
+          ∙ place-free s (entryOf x) (p .sheet) (refuted (held s (entryOf x)) (λ k. never (held-known s (entryOf x) k) new)) new (lt-ltb (s .count) 512 room)
+
+      fits : s .count < length (s .entries)
+      fits = omega (arith, left-grown (calls-of r n) .places, room)
+
+      at : (i : ℕ) → i < suc n → Dec (i ≡ n) → SameEntry (entryAt (withEntry s (entryOf x)) i) (entryAt r i)
+      at i q (yes e) =
+          subst⁻¹ (λ (j : ℕ). SameEntry (entryAt (withEntry s (entryOf x)) j) (entryAt r i)) (e ∙ sym (b .count))
+          (subst⁻¹ (λ (d : Entry). SameEntry d (entryAt r i)) (entry-new s (entryOf x) fits)
+          (subst⁻¹ (λ (j : ℕ). SameEntry (entryOf x) (entryAt r j)) e same))
+      at i q (no e) =
+          subst⁻¹ (λ (d : Entry). SameEntry d (entryAt r i)) (entry-old s (entryOf x) i (omega (arith, b .count))) (b .entries i (omega arith))
+
+      each : (i : ℕ) → i < suc n → SameEntry (entryAt (withEntry s (entryOf x)) i) (entryAt r i)
+      each i q = at i q (ℕ-discrete i n)
+
+  entered : (n : ℕ) → n ≤ r .count → Entered r n (left (calls-of r n))
+  unfolding left calls-of opened
+  entered zero h = record { count = refl; entries = λ i q. absurd (omega arith) }
+  entered (suc n) h = step n (omega arith) (entered n (omega arith))
+
+  -- a register that passes is one that calls could have left
+  pub sound-left : CouldBeLeft r
+  sound-left =
+      let b = entered (r .count) (le-refl (r .count)) in
+      record { calls = calls-of r (r .count); same = record { count = b .count; entries = λ i h. b .entries i (omega (arith, b .count)) } }
+
+-- and one that calls could have left passes
+pub left-sound : (r : Register) → CouldBeLeft r → sound r ≡ true
+left-sound r l = sym (sound-same (l .same)) ∙ left-grown (l .calls) .whole

@@ -1,0 +1,95 @@
+// Whether a register is one that calls could have left: "more than 512 entries, a price out of range, bands that rating
+// refuses, a key of another shape, one customer and key twice".
+use crate::entries::Entry;
+use crate::entries::Register;
+use crate::entries::set_of;
+use crate::words::distinct;
+use crate::words::words_of;
+use curve::levels::all_in_range;
+use quantity::is_key_of;
+use rating::Named;
+use rating::bands_of;
+use rating::kind_of;
+ghost use mathlib.Core.Path.{_≡_};
+ghost use Prim.Native.Nat.{_≤_};
+ghost use Rattle.curve.specs.Bands.{allTo};
+ghost use Rattle.rating.specs.Kinds.{kindOf};
+ghost use Rattle.register.specs.Entries.{ratable, keyed, entryOk};
+ghost use Rattle.register.specs.Registers.{entryAt};
+ghost use Rattle.register.specs.Words.{LookedAt};
+
+// Whether a register is sound, and the words of its entries where it is.
+pub struct Looked {
+    pub sound: bool,
+    pub words: [u32; 512],
+}
+
+fn is_ratable(e: Entry) -> bool
+    ensures { λ r. ⌜ r ≡ ratable (kindOf (e .kind)) e ⌝ }
+{
+    match kind_of(e.kind as u32) {
+        Named::Is(kind) => all_in_range(set_of(e, kind), bands_of(kind)),
+        Named::Unknown => false,
+    }
+}
+
+fn is_keyed(e: Entry) -> bool
+    ensures { λ r. ⌜ r ≡ keyed e ⌝ }
+{
+    let n = e.length as usize;
+    if 32 < n {
+        return false;
+    }
+    let key = e.key;
+    is_key_of(&key[..n])
+}
+
+fn entry_ok(e: Entry) -> bool
+    ensures { λ r. ⌜ r ≡ entryOk e ⌝ }
+{
+    let price = e.price;
+    if !price.in_range() {
+        return false;
+    }
+    if !is_ratable(e) {
+        return false;
+    }
+    is_keyed(e)
+}
+
+fn entries_ok(register: Register, count: usize) -> bool
+    requires { ⌜ count ≤ 512 ⌝ }
+    ensures { λ r. ⌜ r ≡ allTo (λ i. entryOk (entryAt register i)) count ⌝ }
+{
+    let mut i = 0;
+    while i < count {
+        let e = register.entries[i];
+        if !entry_ok(e) {
+            return false;
+        }
+        i += 1;
+    }
+    true
+}
+
+// Looks through a register.
+pub fn look(register: Register) -> Looked
+    ensures { λ r. ⌜ LookedAt register (r .sound) (r .words) ⌝ }
+{
+    let count = register.count;
+    if 512 < count {
+        return Looked {
+            sound: false,
+            words: [0u32; 512],
+        };
+    }
+    if !entries_ok(register, count) {
+        return Looked {
+            sound: false,
+            words: [0u32; 512],
+        };
+    }
+    let words = words_of(register, count);
+    let sound = distinct(register, &words, count);
+    Looked { sound, words }
+}

@@ -1,0 +1,95 @@
+// A word of customer and key: entries whose words differ have another customer or key, so that keys are compared only where
+// words are the same.
+use crate::entries::Entry;
+use crate::entries::Register;
+use crate::entries::same_key;
+ghost use mathlib.Core.Bool.{not};
+ghost use mathlib.Core.Path.{_≡_};
+ghost use Prim.Native.Nat.{_≤_};
+ghost use lib.ListN.{length};
+ghost use Rattle.curve.specs.Bands.{allTo};
+ghost use Rattle.register.specs.Registers.{repeated};
+ghost use Rattle.register.specs.Words.{wordTo, wordOf, WordsOf, PlaceOf, Short};
+
+fn word(customer: u64, key: &[u8]) -> u32
+    ensures { λ r. ⌜ r ≡ wordTo customer (now (key .entry)) (length (now (key .entry))) ⌝ }
+{
+    let mut sum = customer % 4294967296;
+    let mut i = 0;
+    while i < key.len() {
+        sum = (sum * 33 + key[i] as u64) % 4294967296;
+        i += 1;
+    }
+    sum as u32
+}
+
+// The word of an entry.
+pub fn word_of(e: Entry) -> u32
+    requires { ⌜ e .length ≤ 32 ⌝ }
+    ensures { λ r. ⌜ r ≡ wordOf e ⌝ }
+{
+    let key = e.key;
+    let n = e.length as usize;
+    word(e.customer, &key[..n])
+}
+
+// The words of the first `count` entries.
+pub fn words_of(register: Register, count: usize) -> [u32; 512]
+    requires { ⌜ count ≤ 512 ⌝ }
+    requires { ⌜ Short register count ⌝ }
+    ensures { λ r. ⌜ WordsOf register count r ⌝ }
+{
+    let mut words = [0u32; 512];
+    let mut i = 0;
+    while i < count {
+        let e = register.entries[i];
+        let w = word_of(e);
+        words[i] = w;
+        i += 1;
+    }
+    words
+}
+
+// The place of an entry's customer and key among the first n; n where they are not there.
+pub fn place_of(register: Register, words: &[u32; 512], n: usize, e: Entry, w: u32) -> usize
+    requires { ⌜ (n ≤ 512) × (e .length ≤ 32) × (w ≡ wordOf e) ⌝ }
+    requires { ⌜ Short register n ⌝ }
+    requires { ⌜ WordsOf register n (now words) ⌝ }
+    ensures { λ r. ⌜ PlaceOf register n e r ⌝ }
+{
+    let mut i = 0;
+    while i < n {
+        if words[i] == w {
+            let kept = register.entries[i];
+            if same_key(kept, e) {
+                return i;
+            }
+        }
+        i += 1;
+    }
+    n
+}
+
+// Whether no two of the first `count` entries have one customer and key. `met` tells which remainders of words were met.
+pub fn distinct(register: Register, words: &[u32; 512], count: usize) -> bool
+    requires { ⌜ count ≤ 512 ⌝ }
+    requires { ⌜ Short register count ⌝ }
+    requires { ⌜ WordsOf register count (now words) ⌝ }
+    ensures { λ r. ⌜ r ≡ allTo (λ i. not (repeated register i)) count ⌝ }
+{
+    let mut met = [0u8; 16384];
+    let mut i = 0;
+    while i < count {
+        let w = words[i];
+        let slot = (w % 16384) as usize;
+        if met[slot] == 1 {
+            let e = register.entries[i];
+            if place_of(register, words, i, e, w) < i {
+                return false;
+            }
+        }
+        met[slot] = 1;
+        i += 1;
+    }
+    true
+}
