@@ -17,3 +17,5 @@ pub use Rattle.products.specs.Grades.{gradeNumbers, gradedAnswer}
 -- the count of a lift list, the length of an answer line
 pub use Rattle.lift.specs.Calls.{countAnswer}
 pub use Rattle.line.specs.Answers.{wroteAnswer}
+-- a sheet and what is charged now; a customer's total
+pub use Rattle.register.specs.Registers.{billedAnswer, owedAnswer}

@@ -1,4 +1,4 @@
--- The whole statement: the definitions of the crates below, gathered in the order of document 01. Each line passes on names
+-- The whole statement: the definitions of the crates below, gathered in the order of document 01, then of document 02. Each line passes on names
 -- under the sentence that they stand for; the definitions themselves are in the crate that the line names.
 pub mod Quantities
 pub mod Kinds
@@ -9,6 +9,7 @@ pub mod Background
 pub mod Covers
 pub mod Lift
 pub mod Lines
+pub mod Registers
 pub mod Refusals
 pub mod Answers
 pub mod Calls

@@ -1,12 +1,13 @@
-// The open library of the rating desk: every call of document 01.
+// The open library of the rating desk: every call of document 01, and document 02's register of request keys.
 //
-// No call has a `requires`: each answers every input, or refuses it with the one number that document 01 gives. Its promise
-// is an equation with a definition of `specs/`, where the definitions stand gathered in the document's order.
+// No call has a `requires`: each answers every input, or refuses it with the one number that the documents give. Its promise
+// is an equation with a definition of `specs/`, where the definitions stand gathered in the documents' order.
 mod covers;
 mod lifts;
 mod lines;
 mod measured;
 mod ratings;
+mod registers;
 
 pub use covers::cover;
 pub use covers::grade;
@@ -21,3 +22,6 @@ pub use measured::standardized;
 pub use ratings::rate;
 pub use ratings::rate_readings;
 pub use ratings::take_reading;
+pub use registers::bill;
+pub use registers::open_register;
+pub use registers::owed;

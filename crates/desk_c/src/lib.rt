@@ -7,6 +7,7 @@ mod lifts;
 mod lines;
 mod measured;
 mod ratings;
+mod registers;
 
 pub use lifts::imbrolt_lift;
 pub use lines::imbrolt_block;
@@ -21,3 +22,6 @@ pub use measured::imbrolt_specimens;
 pub use ratings::imbrolt_rate;
 pub use ratings::imbrolt_rate_readings;
 pub use ratings::imbrolt_reading;
+pub use registers::imbrolt_bill;
+pub use registers::imbrolt_owed;
+pub use registers::imbrolt_register_open;

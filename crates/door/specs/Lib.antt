@@ -3,3 +3,4 @@ pub mod Answers
 pub mod Sides
 pub mod Lists
 pub mod Given
+pub mod Registers

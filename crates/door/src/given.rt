@@ -6,6 +6,7 @@ use products::Graded;
 use quantity::BandSet;
 use quantity::Outcome;
 use rating::Rated;
+use rating::Sheet;
 use rating::Term;
 ghost use mathlib.Core.Path.{_≡_};
 ghost use Prim.Native.Nat.{_+_, _≤_};
@@ -14,7 +15,7 @@ ghost use lib.ListN.{length, take};
 ghost use Rattle.quantity.specs.Answers.{Answer, flag};
 ghost use Rattle.door.specs.Answers.{returned, held};
 ghost use Rattle.intake.specs.Taken.{takenAnswer};
-ghost use Rattle.rating.specs.Sheets.{termOf, termFlag, ratedAnswer};
+ghost use Rattle.rating.specs.Sheets.{termOf, termFlag, sheetNumbers, ratedAnswer};
 ghost use Rattle.measurement.specs.Lists.{setNumbers, intakeAnswer};
 ghost use Rattle.products.specs.Covers.{improvementAnswer};
 ghost use Rattle.products.specs.Grades.{gradedAnswer};
@@ -80,6 +81,29 @@ fn term_flag(term: Term) -> i32
     }
 }
 
+// The six numbers of a sheet, with zeros after them.
+pub fn sheet_numbers(sheet: Sheet) -> [i32; 17]
+    requires { ⌜ sheet .shifts ≤ 500 ⌝ }
+    ensures { λ r. ⌜ take 6 r ≡ sheetNumbers sheet ⌝ }
+    ensures { λ r. ⌜ length r ≡ 17 ⌝ }
+{
+    let rating = sheet.rating.0;
+    let first = sheet.first.0;
+    let term = sheet.second;
+    let second = term_value(term);
+    let given = term_flag(term);
+    let shifts = sheet.shifts as i32;
+    let mark = flag_of(sheet.limit);
+    let mut answer = [0i32; 17];
+    answer[0] = rating;
+    answer[1] = first;
+    answer[2] = second;
+    answer[3] = given;
+    answer[4] = shifts;
+    answer[5] = mark;
+    answer
+}
+
 // The numbers of a sheet, or the refusal's number.
 pub fn give_rated(out: &mut [i32], rated: Rated) -> u32
     requires { ⌜ Fitting rated ⌝ }
@@ -87,23 +111,7 @@ pub fn give_rated(out: &mut [i32], rated: Rated) -> u32
     ensures { λ _. ⌜ now (out .exit) ≡ held (ratedAnswer rated) (now (out .entry)) ⌝ }
 {
     match rated {
-        Rated::Rating(sheet) => {
-            let rating = sheet.rating.0;
-            let first = sheet.first.0;
-            let term = sheet.second;
-            let second = term_value(term);
-            let given = term_flag(term);
-            let shifts = sheet.shifts as i32;
-            let mark = flag_of(sheet.limit);
-            let mut answer = [0i32; 17];
-            answer[0] = rating;
-            answer[1] = first;
-            answer[2] = second;
-            answer[3] = given;
-            answer[4] = shifts;
-            answer[5] = mark;
-            give(out, answer, 6)
-        }
+        Rated::Rating(sheet) => give(out, sheet_numbers(sheet), 6),
         Rated::Refused(refusal) => refusal.number(),
     }
 }

@@ -2,6 +2,7 @@
 // each answer put into a lent array. Nothing here is called from C.
 mod given;
 mod lists;
+mod registers;
 mod sides;
 
 pub use given::give_cover;
@@ -13,4 +14,7 @@ pub use given::give_taken;
 pub use lists::reading_from;
 pub use lists::readings_from;
 pub use lists::set_from;
+pub use registers::Billing;
+pub use registers::bill_given;
+pub use registers::owed_given;
 pub use sides::side_of;

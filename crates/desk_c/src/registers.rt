@@ -1,0 +1,52 @@
+// The register of request keys, in the caller's memory. Each call is of the form of `desk`'s: the register is taken whole,
+// handed to a step by value, and put back whole.
+use door::bill_given;
+use door::owed_given;
+use register::Register;
+ghost use mathlib.Core.Path.{_≡_};
+ghost use lib.ListN.{length};
+ghost use Rattle.register.specs.Registers.{opened};
+ghost use Rattle.door.specs.Answers.{returned, held};
+ghost use Rattle.door.specs.Registers.{callGiven, billAnswer, billLeft, owedGiven};
+
+// A register without entries.
+#[no_mangle]
+pub extern "C" fn imbrolt_register_open(register: &mut Register) -> u32
+    ensures { λ r. ⌜ r ≡ 0 ⌝ }
+    ensures { λ _. ⌜ now (register .exit) ≡ opened ⌝ }
+{
+    *register = register::open_register();
+    0
+}
+
+// The sheet and what is charged now.
+#[no_mangle]
+pub extern "C" fn imbrolt_bill(
+    register: &mut Register,
+    customer: u64,
+    key: &[u8],
+    kind: u32,
+    values: &[i32],
+    marks: u32,
+    price: u32,
+    out: &mut [i32],
+) -> u32
+    ensures { λ r. ⌜ r ≡ returned (billAnswer (now (register .entry)) (callGiven customer (now (key .entry)) kind (now (values .entry)) marks price)) (length (now (out .entry))) ⌝ }
+    ensures { λ _. ⌜ now (register .exit) ≡ billLeft (now (register .entry)) (callGiven customer (now (key .entry)) kind (now (values .entry)) marks price) (length (now (out .entry))) ⌝ }
+    ensures { λ _. ⌜ now (out .exit) ≡ held (billAnswer (now (register .entry)) (callGiven customer (now (key .entry)) kind (now (values .entry)) marks price)) (now (out .entry)) ⌝ }
+{
+    let whole = *register;
+    let step = bill_given(whole, customer, key, kind, values, marks, price, out);
+    *register = step.register;
+    step.number
+}
+
+// A customer's total.
+#[no_mangle]
+pub extern "C" fn imbrolt_owed(register: &Register, customer: u64, out: &mut [i32]) -> u32
+    ensures { λ r. ⌜ r ≡ returned (owedGiven (now (register .entry)) customer) (length (now (out .entry))) ⌝ }
+    ensures { λ _. ⌜ now (out .exit) ≡ held (owedGiven (now (register .entry)) customer) (now (out .entry)) ⌝ }
+{
+    let whole = *register;
+    owed_given(whole, customer, out)
+}
