@@ -2,8 +2,8 @@
  * Imbrolt: sound insulation ratings in whole numbers, from a proved library.
  *
  * Link libdesk_c.a. It needs no other library, allocates nothing, keeps no state between calls and
- * may be called from any number of threads at once; but only one call at a time may be given a
- * register that one of them may change.
+ * may be called from any number of threads at once. A register that a call may change is lent to
+ * that call alone.
  *
  * What every function has in common
  *
