@@ -41,7 +41,8 @@ SHORT_KEYS = (b"K", b"K1", b"K12", b"k1", b"-", b"K-1")
 
 
 def any_bytes(seeded, count):
-    return bytes(seeded.below(256) for _ in range(count))
+    words = (seeded.next().to_bytes(8, "little") for _ in range(0, count, 8))
+    return b"".join(words)[:count]
 
 
 class Caller:
@@ -200,7 +201,10 @@ def damage(seeded, calls):
         return "put", start + 40 + 4 * band, value
     if way == 4:
         if seeded.chance(2):
-            return "put", start + 110, bytes([seeded.pick((0, 33, 34, 64, 128, 255))])
+            data = bytearray(with_junk(seeded, call, False))
+            data[8 + len(call.key):40] = (32 - len(call.key)) * b"k"
+            data[110] = seeded.pick((0, 33, 34, 64, 128, 255))
+            return "put", start, bytes(data)
         return "put", start + 8 + seeded.below(len(call.key)), seeded.pick(
             (b"/", b":", b"@", b"[", b"`", b"{", b" ", b"_", b"\0", b"\x7f", b"\x80", b"\xe1"))
     other = calls[seeded.below(place)] if place else call
@@ -227,7 +231,7 @@ def full_history(seeded, caller):
 
 def damaged_history(seeded, caller):
     """Damaged in one way or several, then opened anew."""
-    steps = filled(seeded, caller, seeded.pick((1, 2, 7, 40)))
+    steps = filled(seeded, caller, seeded.pick((1, 2, 7, 40, 40, 7, 2, MOST_ENTRIES)))
     calls = list(caller.sent)
     steps += [damage(seeded, calls) for _ in range(seeded.pick((1, 1, 1, 2, 4)))]
     return steps + calls_of(caller, 8) + [("open",)] + calls_of(caller, 4)
@@ -244,11 +248,11 @@ SORTS = ((opened_history, 24), (filled_history, 24), (full_history, 8), (damaged
          (random_history, 2))
 
 
-def histories(seeded):
+def histories(seeded, times=1):
     """Histories of every sort, of few customers and of many."""
     made = []
     for sort, count in SORTS:
-        for _ in range(count):
+        for _ in range(times * count):
             number = seeded.pick((1, 2, 3, 40))
             customers = [seeded.pick((place, 2 ** 32 + place, seeded.next()))
                          for place in range(number)]
