@@ -97,10 +97,12 @@ pub fn time_calls() {
 /// within the time, the same on both sides.
 fn time_bills() {
     const ENTERED: usize = ENTRIES - 1;
-    let (mut words, mut register) = ([0; 7169], Box::new(Register::EMPTY));
+    let mut words = [0; imbrolt::Register::BYTES / 8];
+    let mut register = Box::new(Register::EMPTY);
     let (mut out, mut plain_out) = ([0; 7], [0; 7]);
     let mut proved = |count: usize, (key, set): &(Vec<u8>, [i32; 16])| {
-        words[7168] = count as u64;
+        let [.., last] = &mut words;
+        *last = count as u64;
         imbrolt::door::bill(&mut words, 7, key, 0, set, 0, 500, &mut out)
     };
     let mut plain = |count: usize, (key, set): &(Vec<u8>, [i32; 16])| {

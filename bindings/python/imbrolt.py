@@ -167,8 +167,8 @@ class Progress(NamedTuple):
 
 _u32, _i32, _float, _size = ctypes.c_uint32, ctypes.c_int32, ctypes.c_float, ctypes.c_size_t
 _ints, _floats, _bytes = (ctypes.POINTER(kind) for kind in (_i32, _float, ctypes.c_uint8))
-_shorts, _longs = ctypes.POINTER(ctypes.c_uint16), ctypes.POINTER(ctypes.c_uint64)
-_customer = ctypes.c_uint64
+_u64 = ctypes.c_uint64
+_shorts, _longs = ctypes.POINTER(ctypes.c_uint16), ctypes.POINTER(_u64)
 
 _FUNCTIONS = {
     "reading": (_u32, _float, _ints, _size),
@@ -185,8 +185,8 @@ _FUNCTIONS = {
     "line": (_bytes, _size, _bytes, _size, _size, _longs, _size),
     "block": (_bytes, _size, _u32, _u32, _bytes, _size, _longs, _size),
     "register_open": (_longs,),
-    "bill": (_longs, _customer, _bytes, _size, _u32, _ints, _size, _u32, _u32, _ints, _size),
-    "owed": (_longs, _customer, _ints, _size),
+    "bill": (_longs, _u64, _bytes, _size, _u32, _ints, _size, _u32, _u32, _ints, _size),
+    "owed": (_longs, _u64, _ints, _size),
 }
 
 
@@ -251,7 +251,7 @@ def _price(number):
     return _number(number, Fen) & 0xFFFFFFFF
 
 
-def _customer_number(number):
+def _customer(number):
     """A customer number. There is no refusal for what is none."""
     if not 0 <= number < 2 ** 64:
         raise OverflowError(f"customer number {number} does not fit 64 bits")
@@ -366,7 +366,7 @@ def lift(kind, values, target):
 
 def line(request, output, at=0):
     """Answers one request line into a bytearray from a place on; the length of the answer."""
-    wrote = (ctypes.c_uint64 * 1)()
+    wrote = (_u64 * 1)()
     _call("line", *_given(request), *_lent(output), at, wrote, 1)
     return wrote[0]
 
@@ -377,7 +377,7 @@ def block(data, output, skipping=False, last=False):
     Hand the bytes that it did not use in again, at the front of the next block, with the skipping
     of this one; last says that the stream ends with this block.
     """
-    progress = (ctypes.c_uint64 * 3)()
+    progress = (_u64 * 3)()
     _call("block", *_given(data), int(skipping), int(last), *_lent(output), progress, 3)
     used, written, skips = progress
     return Progress(used, written, bool(skips))
@@ -411,7 +411,7 @@ class Register:
     """
 
     SIZE = 57352
-    _Words = ctypes.c_uint64 * (SIZE // 8)
+    _Words = _u64 * (SIZE // 8)
 
     def __init__(self):
         self._words = self._Words()
@@ -424,13 +424,13 @@ class Register:
         of a key counts.
         """
         *numbers, charged = _answer(
-            "bill", 7, self._words, _customer_number(customer), *_given(key), _kind(kind),
+            "bill", 7, self._words, _customer(customer), *_given(key), _kind(kind),
             *_set(values), marks & 0xFFFF, _price(price))
         return Billed(_sheet(numbers), Fen(charged))
 
     def owed(self, customer):
         """The total of a customer, in fen."""
-        return Fen(_answer("owed", 1, self._words, _customer_number(customer))[0])
+        return Fen(_answer("owed", 1, self._words, _customer(customer))[0])
 
     def to_bytes(self):
         """Its bytes as they stand in memory, to be kept."""

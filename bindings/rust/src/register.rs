@@ -28,7 +28,7 @@ impl Register {
 
     /// A register without entries.
     pub fn new() -> Register {
-        let mut words = Box::new([0; 7169]);
+        let mut words = Box::new([0; Register::BYTES / 8]);
         accepted(door::register_open(&mut words)).expect("a register is always opened");
         Register(words)
     }

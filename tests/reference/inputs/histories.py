@@ -187,7 +187,8 @@ def damage(seeded, calls):
     """What makes a register of these entries one that no calls could have left so."""
     place = seeded.below(len(calls))
     call, start = calls[place], place * ENTRY.size
-    way = seeded.below(6)
+    # That a count is above 512 shows by itself only where all 512 entries are sound.
+    way = 0 if len(calls) == MOST_ENTRIES and seeded.chance(2) else seeded.below(6)
     if way == 0:
         return count_put(seeded.pick((513, 1000, 2 ** 16, 2 ** 32, 2 ** 32 + 1, 2 ** 63,
                                       2 ** 64 - 1)))
