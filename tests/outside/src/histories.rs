@@ -17,7 +17,7 @@ const SHORT_KEYS: [&[u8]; 7] =
 /// Bytes beside those that a key may have, and some of them with their highest bit set.
 const ODD_BYTES: &[u8] = b"/:@[`{ ,._\0\n\x7f\x80\xad\xb0\xc1\xe1\xff";
 
-/// Compares so many calls in histories of every sort.
+/// Compares every byte, length and kind, then so many calls in histories of every sort.
 pub fn compare(door: &mut Door, seeded: &mut Seeded, count: usize) -> Result<Tally, String> {
     let mut tally = Tally::of(&[]);
     let mut ledger = Ledger::new(seeded);
@@ -34,7 +34,8 @@ pub fn compare(door: &mut Door, seeded: &mut Seeded, count: usize) -> Result<Tal
             sent: vec![],
             tally: &mut tally,
         };
-        history.run().map_err(|difference| format!("history {number}: {difference}"))?;
+        let compared = if number == 0 { history.every_byte() } else { history.run() };
+        compared.map_err(|difference| format!("history {number}: {difference}"))?;
     }
     Ok(tally)
 }
@@ -118,21 +119,55 @@ impl History<'_> {
         self.calls(15)
     }
 
-    fn calls(&mut self, count: usize) -> Result<(), String> {
-        for _ in 0..count {
-            let returned = self.call()?;
-            self.tally.add(&Tally::of(&[returned]));
+    /// Every byte in a key, every length and every kind: of a call, and in an entry.
+    fn every_byte(&mut self) -> Result<(), String> {
+        const CHANGES: [fn(&mut Entry, u8); 4] = [
+            |entry, byte| entry.key[0] = byte,
+            |entry, byte| entry.key[31] = byte,
+            |entry, byte| entry.length = byte,
+            |entry, byte| entry.kind = byte,
+        ];
+        for byte in 0..=255 {
+            let ending = [&[b'k'; 31][..], &[byte]].concat();
+            for key in [vec![byte], ending, vec![b'k'; byte.into()]] {
+                self.open()?;
+                let asked = Asked { key, ..self.new_call() };
+                self.bill(&asked, 7)?;
+            }
+            for change in CHANGES {
+                self.fill(1);
+                let entry = &mut self.ledger.register().entries[0];
+                *entry = Entry { key: [b'k'; 32], values: [400; 16], length: 32, ..*entry };
+                change(entry, byte);
+                self.calls(2)?;
+            }
         }
         Ok(())
     }
 
+    fn bill(&mut self, asked: &Asked, places: usize) -> Result<(), String> {
+        let returned = self.ledger.bill(self.door, self.seeded, asked, places)?;
+        self.tally.add(&Tally::of(&[returned]));
+        Ok(())
+    }
+
+    fn owed(&mut self, customer: u64, places: usize) -> Result<(), String> {
+        let returned = self.ledger.owed(self.door, self.seeded, customer, places)?;
+        self.tally.add(&Tally::of(&[returned]));
+        Ok(())
+    }
+
+    fn calls(&mut self, count: usize) -> Result<(), String> {
+        (0..count).try_for_each(|_| self.call())
+    }
+
     /// Any call.
-    fn call(&mut self) -> Result<u32, String> {
+    fn call(&mut self) -> Result<(), String> {
         if self.seeded.chance(8) {
             let (known, any) = (self.customer(), self.seeded.next());
             let customer = self.seeded.pick(&[known, known, known, any]);
             let places = self.seeded.pick(&[1, 1, 1, 1, 0, 5]);
-            return self.ledger.owed(self.door, self.seeded, customer, places);
+            return self.owed(customer, places);
         }
         let which = if self.sent.is_empty() { 0 } else { self.seeded.below(8) };
         let mut asked = match which {
@@ -145,7 +180,7 @@ impl History<'_> {
         }
         let few = self.seeded.below(10);
         let places = self.seeded.pick(&[7, 7, 7, 7, 7, 7, 7, 7, 20, few]);
-        self.ledger.bill(self.door, self.seeded, &asked, places)
+        self.bill(&asked, places)
     }
 
     fn customer(&mut self) -> u64 {
