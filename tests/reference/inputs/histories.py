@@ -132,7 +132,7 @@ def wrong_key(seeded, key):
         return seeded.pick(ODD_KEYS)
     if way == 1:
         return key + bytes(seeded.pick(KEY_BYTES) for _ in range(33 - len(key) + seeded.below(3)))
-    key = bytearray(key)
+    key = bytearray(key or b"k")
     key[seeded.below(len(key))] = seeded.pick(b"/:@[`{ _.,\0\x7f\x80\xad\xff\t\n")
     return bytes(key)
 
