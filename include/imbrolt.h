@@ -2,21 +2,24 @@
  * Imbrolt: sound insulation ratings in whole numbers, from a proved library.
  *
  * Link libdesk_c.a. It needs no other library, allocates nothing, keeps no state between calls and
- * may be called from any number of threads at once.
+ * may be called from any number of threads at once. A register that a call may change is lent to
+ * that call alone.
  *
  * What every function has in common
  *
  *   Return value   0 (IMBROLT_OK), or the number of a refusal (enum imbrolt_refusal).
  *   Units          Measured values and levels are whole tenths of a decibel, in -200..1500. Ratings,
- *                  targets and terms are whole decibels. Nothing converts between them unasked.
+ *                  targets and terms are whole decibels, prices whole fen. Nothing converts between
+ *                  them unasked.
  *   Arrays         An array is a pointer and, right after it, the number of its elements (not of
  *                  bytes). No element is touched past that number; where it is 0 the pointer is not
- *                  followed and may be NULL. Arrays lent to one call must not overlap.
+ *                  followed and may be NULL. Arrays lent to one call must not overlap each other
+ *                  nor a register.
  *   Answers        Written to the array `out` from out[0], in the order given below. Elements past the
  *                  answer keep their contents. An array that is longer than needed is fine.
- *   Refusals       A refused call changes no array. When several refusals apply, the one returned is
- *                  the first in the order given with the function; IMBROLT_OUTPUT_TOO_SMALL is always
- *                  tested last.
+ *   Refusals       A refused call changes no array and no register. When several refusals apply, the
+ *                  one returned is the first in the order given with the function;
+ *                  IMBROLT_OUTPUT_TOO_SMALL is always tested last.
  *   Limit          1 where a value stands for "at least" (airborne, improvements, grades) or "at most"
  *                  (impact), 0 where it is what it says. Limit values are rated as the number shown.
  *   Marks of a set Bit i is the limit mark of band i, band 0 the lowest. Bits past the bands of the
@@ -45,8 +48,12 @@ enum imbrolt_refusal {
     IMBROLT_TARGET_NOT_BETTER = 8,   /* target is not better than the rating */
     IMBROLT_TARGET_RANGE = 9,        /* target outside -100..200 decibels */
     IMBROLT_OUTPUT_TOO_SMALL = 10,   /* lent array too small for the answer, or offset past its end */
-    IMBROLT_NOT_A_REQUEST = 11,      /* line is not a request; stands in answer lines only */
-    IMBROLT_NOT_SPECIMENS = 12       /* specimens are not 48 values */
+    IMBROLT_NOT_A_REQUEST = 11,      /* line is not a request (in answer lines); or key is none */
+    IMBROLT_NOT_SPECIMENS = 12,      /* specimens are not 48 values */
+    IMBROLT_PRICE_RANGE = 16,        /* price outside 0..1,000,000 fen */
+    IMBROLT_OTHER_BANDS = 17,        /* same customer and key with another kind or other bands */
+    IMBROLT_REGISTER_FULL = 18,      /* no room for a new key */
+    IMBROLT_REGISTER_DAMAGED = 19    /* register that no calls could have left so */
 };
 
 /* What was measured. Any other number is no kind, and is refused with IMBROLT_BAND_COUNT. */
@@ -85,7 +92,9 @@ enum imbrolt_places {
     IMBROLT_LIFT_OCTAVES_PLACES = 25, /* of the list, for A1 and I1 */
     IMBROLT_LIFT_PLACES = 1,
     IMBROLT_WROTE_PLACES = 1,
-    IMBROLT_PROGRESS_PLACES = 3
+    IMBROLT_PROGRESS_PLACES = 3,
+    IMBROLT_BILL_PLACES = 7,
+    IMBROLT_OWED_PLACES = 1
 };
 
 /*
@@ -259,6 +268,69 @@ uint32_t imbrolt_line(const uint8_t *line, size_t line_len, uint8_t *out, size_t
  */
 uint32_t imbrolt_block(const uint8_t *input, size_t input_len, uint32_t skipping, uint32_t last,
                        uint8_t *out, size_t out_len, uint64_t *progress, size_t progress_len);
+
+/* The most entries of a register. */
+#define IMBROLT_REGISTER_ENTRIES 512
+
+/* What was asked for under a key. Bytes past the key's length, and values and marks past the bands
+ * of the kind, do not matter; a call enters them as 0. */
+typedef struct imbrolt_entry {
+    uint64_t customer;
+    uint8_t key[32];
+    int32_t values[16]; /* tenths */
+    uint32_t price;     /* fen */
+    uint16_t marks;
+    uint8_t length; /* of the key */
+    uint8_t kind;   /* enum imbrolt_kind */
+} imbrolt_entry;
+
+/* The keys that customers were charged for, in order of entry. It is the caller's memory: 57352 bytes
+ * without gaps, which may be copied and kept as they are. Entries from the count on do not matter. */
+typedef struct imbrolt_register {
+    imbrolt_entry entries[IMBROLT_REGISTER_ENTRIES];
+    uint64_t count;
+} imbrolt_register;
+
+#if defined(__cplusplus) && __cplusplus >= 201103L
+static_assert(sizeof(imbrolt_entry) == 112, "an entry has no gaps");
+static_assert(sizeof(imbrolt_register) == 57352, "a register has no gaps");
+#elif defined(__STDC_VERSION__) && __STDC_VERSION__ >= 201112L
+_Static_assert(sizeof(imbrolt_entry) == 112, "an entry has no gaps");
+_Static_assert(sizeof(imbrolt_register) == 57352, "a register has no gaps");
+#endif
+
+/* Opens a register empty: all its bytes become 0, whatever they were. Never refused. */
+uint32_t imbrolt_register_open(imbrolt_register *reg);
+
+/*
+ * Rates a set, given as for imbrolt_rate, on a customer's bill: a new key is entered and charged; the
+ * same customer, key, kind and bands again get the same sheet and no charge. A key is 1 to 32 ASCII
+ * letters, digits or hyphens. The price, in fen, is fixed when the key is entered; that of a later
+ * call is tested for its range and is otherwise without effect.
+ *
+ *   out[0] .. out[5]  as for imbrolt_rate
+ *   out[6]            what is charged now, in fen: the price for a new key, else 0
+ *
+ * A new key is written to the entry at the place of the count, and the count goes up by 1; nothing
+ * else of the register changes. Where the key was there, or the call is refused, nothing does.
+ *
+ * Refusals: IMBROLT_REGISTER_DAMAGED (a count above 512; among the entries below the count a price
+ * above 1,000,000, no kind, a band out of range, a key of another shape, or one customer and key
+ * twice); IMBROLT_NOT_A_REQUEST for the key; IMBROLT_BAND_COUNT, IMBROLT_BAND_RANGE;
+ * IMBROLT_PRICE_RANGE; IMBROLT_OTHER_BANDS; IMBROLT_REGISTER_FULL; IMBROLT_OUTPUT_TOO_SMALL.
+ */
+uint32_t imbrolt_bill(imbrolt_register *reg, uint64_t customer, const uint8_t *key, size_t key_len,
+                      uint32_t kind, const int32_t *values, size_t values_len, uint32_t marks,
+                      uint32_t price, int32_t *out, size_t out_len);
+
+/*
+ * Adds up what a customer owes: the prices of that customer's keys.
+ *
+ *   out[0]  the total in fen, 0 for a customer without keys
+ *
+ * Refusals: IMBROLT_REGISTER_DAMAGED as for imbrolt_bill, IMBROLT_OUTPUT_TOO_SMALL.
+ */
+uint32_t imbrolt_owed(const imbrolt_register *reg, uint64_t customer, int32_t *out, size_t out_len);
 
 #ifdef __cplusplus
 }

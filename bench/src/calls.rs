@@ -1,6 +1,7 @@
 //! Nanoseconds of single calls, through the C door and by the plain implementation.
 
 use crate::processor::{time_of_self, Best};
+use imbrolt_plain::register::{Register, ENTRIES};
 use std::hint::black_box;
 use std::time::Duration;
 
@@ -63,8 +64,12 @@ macro_rules! row {
         let inputs = $inputs;
         let proved = nanoseconds(&inputs, |$input| imbrolt::door::$call($($argument),*));
         let plain = nanoseconds(&inputs, |$input| imbrolt_plain::door::$call($($argument),*));
-        println!("{:<44}{proved:>12.1}{plain:>12.1}{:>12.2}", $name, plain / proved);
+        print_row($name, proved, plain);
     }};
+}
+
+fn print_row(name: &str, proved: f64, plain: f64) {
+    println!("{name:<44}{proved:>12.1}{plain:>12.1}{:>12.2}", plain / proved);
 }
 
 pub fn time_calls() {
@@ -83,6 +88,41 @@ pub fn time_calls() {
     let mut text = [0; 64];
     let mut wrote = [0];
     row!("line, airborne thirds", lines(), line => line(line, &mut text, 0, &mut wrote));
+    time_bills();
+}
+
+/// Bills on a register of 511 entries of one customer: of new keys, and of those that are there.
+///
+/// Before each call the count is set to 511 again, which takes back what a new key did: one store
+/// within the time, the same on both sides.
+fn time_bills() {
+    const ENTERED: usize = ENTRIES - 1;
+    let mut words = [0; imbrolt::Register::BYTES / 8];
+    let mut register = Box::new(Register::EMPTY);
+    let (mut out, mut plain_out) = ([0; 7], [0; 7]);
+    let mut proved = |count: usize, (key, set): &(Vec<u8>, [i32; 16])| {
+        let [.., last] = &mut words;
+        *last = count as u64;
+        imbrolt::door::bill(&mut words, 7, key, 0, set, 0, 500, &mut out)
+    };
+    let mut plain = |count: usize, (key, set): &(Vec<u8>, [i32; 16])| {
+        register.count = count as u64;
+        imbrolt_plain::door::bill(&mut register, 7, key, 0, set, 0, 500, &mut plain_out)
+    };
+    let keys = |name: &str, count| -> Vec<_> {
+        let key = |(place, set)| (format!("{name}-{place}").into_bytes(), set);
+        sets(&WALL).into_iter().take(count).enumerate().map(key).collect()
+    };
+    let (entered, new) = (keys("wall", ENTERED), keys("new", 128));
+    for (count, bill) in entered.iter().enumerate() {
+        assert_eq!((proved(count, bill), plain(count, bill)), (0, 0));
+    }
+    for (name, bills) in
+        [("bill, a new key after 511", &new), ("bill, one of 511 keys again", &entered)]
+    {
+        let by_door = nanoseconds(bills, |bill| proved(ENTERED, bill));
+        print_row(name, by_door, nanoseconds(bills, |bill| plain(ENTERED, bill)));
+    }
 }
 
 /// So many sets one after another, as an analyser's floats.

@@ -5,9 +5,9 @@
     >>> sheet.rating, sheet.first, sheet.second
     (30, -2, -3)
 
-Measured values are whole tenths of a decibel, ratings, targets and terms whole decibels. Answers
-say which by their types, Tenths and Decibels, and neither is taken for the other; a plain number
-is taken as what the call asks for. Limit marks of a set are one number, bit i the mark of band i,
+Measured values are whole tenths of a decibel, ratings, targets and terms whole decibels, prices
+whole fen. Answers say which by their types, Tenths, Decibels and Fen, and none is taken for
+another; a plain number is taken as what the call asks for. Limit marks of a set are one number, bit i the mark of band i,
 band 0 the lowest. A call that is refused raises Refused, with the library's refusal.
 
 The library is a shared object, made from its archive (and from nothing else) by
@@ -34,6 +34,10 @@ class Tenths(int):
 
 class Decibels(int):
     """Whole decibels: ratings, targets and rounded terms."""
+
+
+class Fen(int):
+    """Whole fen: prices, charges and totals."""
 
 
 class Kind(enum.IntEnum):
@@ -67,6 +71,10 @@ class Refusal(enum.IntEnum):
     OUTPUT_TOO_SMALL = 10
     NOT_A_REQUEST = 11
     NOT_SPECIMENS = 12
+    PRICE_RANGE = 16
+    OTHER_BANDS = 17
+    REGISTER_FULL = 18
+    REGISTER_DAMAGED = 19
 
 
 class Refused(Exception):
@@ -114,6 +122,13 @@ class Sheet(NamedTuple):
     limit: bool
 
 
+class Billed(NamedTuple):
+    """What a call on a register answers; nothing is charged for a key that was charged before."""
+
+    sheet: Sheet
+    charged: Fen
+
+
 class Cover(NamedTuple):
     """The improvement by a floor cover."""
 
@@ -152,7 +167,8 @@ class Progress(NamedTuple):
 
 _u32, _i32, _float, _size = ctypes.c_uint32, ctypes.c_int32, ctypes.c_float, ctypes.c_size_t
 _ints, _floats, _bytes = (ctypes.POINTER(kind) for kind in (_i32, _float, ctypes.c_uint8))
-_shorts, _longs = ctypes.POINTER(ctypes.c_uint16), ctypes.POINTER(ctypes.c_uint64)
+_u64 = ctypes.c_uint64
+_shorts, _longs = ctypes.POINTER(ctypes.c_uint16), ctypes.POINTER(_u64)
 
 _FUNCTIONS = {
     "reading": (_u32, _float, _ints, _size),
@@ -168,6 +184,9 @@ _FUNCTIONS = {
     "lift": (_u32, _ints, _size, _u32, _i32, _shorts, _size, _ints, _size),
     "line": (_bytes, _size, _bytes, _size, _size, _longs, _size),
     "block": (_bytes, _size, _u32, _u32, _bytes, _size, _longs, _size),
+    "register_open": (_longs,),
+    "bill": (_longs, _u64, _bytes, _size, _u32, _ints, _size, _u32, _u32, _ints, _size),
+    "owed": (_longs, _u64, _ints, _size),
 }
 
 
@@ -213,18 +232,30 @@ def _within(number, low, high):
     return min(max(number, low), high)
 
 
-def _number(number, wanted, unwanted):
-    if isinstance(number, unwanted):
-        raise TypeError(f"{unwanted.__name__} given for {wanted.__name__}")
+def _number(number, wanted):
+    if isinstance(number, (Tenths, Decibels, Fen)) and not isinstance(number, wanted):
+        raise TypeError(f"{type(number).__name__} given for {wanted.__name__}")
     return _within(int(number), -2 ** 31, 2 ** 31 - 1)
 
 
 def _tenths(number):
-    return _number(number, Tenths, Decibels)
+    return _number(number, Tenths)
 
 
 def _decibels(number):
-    return _number(number, Decibels, Tenths)
+    return _number(number, Decibels)
+
+
+def _price(number):
+    """A price; what is below 0 becomes one that is out of range too."""
+    return _number(number, Fen) & 0xFFFFFFFF
+
+
+def _customer(number):
+    """A customer number. There is no refusal for what is none."""
+    if not 0 <= number < 2 ** 64:
+        raise OverflowError(f"customer number {number} does not fit 64 bits")
+    return number
 
 
 def _kind(kind):
@@ -335,7 +366,7 @@ def lift(kind, values, target):
 
 def line(request, output, at=0):
     """Answers one request line into a bytearray from a place on; the length of the answer."""
-    wrote = (ctypes.c_uint64 * 1)()
+    wrote = (_u64 * 1)()
     _call("line", *_given(request), *_lent(output), at, wrote, 1)
     return wrote[0]
 
@@ -346,7 +377,7 @@ def block(data, output, skipping=False, last=False):
     Hand the bytes that it did not use in again, at the front of the next block, with the skipping
     of this one; last says that the stream ends with this block.
     """
-    progress = (ctypes.c_uint64 * 3)()
+    progress = (_u64 * 3)()
     _call("block", *_given(data), int(skipping), int(last), *_lent(output), progress, 3)
     used, written, skips = progress
     return Progress(used, written, bool(skips))
@@ -366,6 +397,55 @@ def answers(stream):
             yield bytes(output[:written])
 
 
+class Register:
+    """The keys that customers were charged for, up to 512.
+
+    A new key is entered and charged; the same customer, key, kind and bands again get the same
+    sheet and no charge:
+
+        >>> register = Register()
+        >>> first = register.bill(7, b"door-1", Kind.A1, [240, 330, 400, 430, 440], 500)
+        >>> again = register.bill(7, b"door-1", Kind.A1, [240, 330, 400, 430, 440], 500)
+        >>> first.charged, again.charged, first.sheet == again.sheet, register.owed(7)
+        (500, 0, True, 500)
+    """
+
+    SIZE = 57352
+    _Words = _u64 * (SIZE // 8)
+
+    def __init__(self):
+        self._words = self._Words()
+        _call("register_open", self._words)
+
+    def bill(self, customer, key, kind, values, price, marks=0):
+        """Rates a set of bands in tenths, and enters and charges its key if it is new.
+
+        The key is bytes: 1 to 32 ASCII letters, digits or hyphens. The price is in fen; the first
+        of a key counts.
+        """
+        *numbers, charged = _answer(
+            "bill", 7, self._words, _customer(customer), *_given(key), _kind(kind),
+            *_set(values), marks & 0xFFFF, _price(price))
+        return Billed(_sheet(numbers), Fen(charged))
+
+    def owed(self, customer):
+        """The total of a customer, in fen."""
+        return Fen(_answer("owed", 1, self._words, _customer(customer))[0])
+
+    def to_bytes(self):
+        """Its bytes as they stand in memory, to be kept."""
+        return bytes(self._words)
+
+    @classmethod
+    def from_bytes(cls, data):
+        """The register of such bytes. Calls refuse one that no calls could have left so."""
+        if len(data) != cls.SIZE:
+            raise ValueError(f"a register has {cls.SIZE} bytes, not {len(data)}")
+        register = cls()
+        register._words = cls._Words.from_buffer_copy(data)
+        return register
+
+
 def _example():
     wall = [310, 340, 370, 400, 430, 460, 490, 400, 510, 520, 530, 540, 540, 540, 540, 540]
     print("wall:", rate(Kind.A3, wall))
@@ -383,6 +463,10 @@ def _example():
     output = bytearray(64)
     length = line(b"A1\tK2\t24.0\t33.0\t40.0\t43.0\t44.0\n", output)
     print("line:", bytes(output[:length]))
+    register = Register()
+    print("billed:", register.bill(7, b"wall-1", Kind.A3, wall, 800))
+    print("billed again:", register.bill(7, b"wall-1", Kind.A3, wall, 800).charged, "fen")
+    print("owed:", register.owed(7), "fen")
     try:
         rate(Kind.A1, wall)
     except Refused as refused:

@@ -18,7 +18,7 @@ struct part {
 struct frame {
     uint32_t call, words;
     uint64_t numbers[4];
-    struct part parts[3];
+    struct part parts[4];
     unsigned char memory[];
 };
 
@@ -44,8 +44,9 @@ static float real(uint64_t bits)
 static uint32_t call(struct frame *f)
 {
     uint64_t *n = f->numbers;
-    void *p = array(f, 0), *q = array(f, 1), *r = array(f, 2);
+    void *p = array(f, 0), *q = array(f, 1), *r = array(f, 2), *s = array(f, 3);
     size_t pn = f->parts[0].length, qn = f->parts[1].length, rn = f->parts[2].length;
+    size_t sn = f->parts[3].length;
 
     switch (f->call) {
     case 0: return imbrolt_reading((uint32_t)n[0], real(n[1]), p, pn);
@@ -62,6 +63,10 @@ static uint32_t call(struct frame *f)
         return imbrolt_lift((uint32_t)n[0], p, pn, (uint32_t)n[1], (int32_t)n[2], q, qn, r, rn);
     case 11: return imbrolt_line(p, pn, q, qn, (size_t)n[0], r, rn);
     case 12: return imbrolt_block(p, pn, (uint32_t)n[0], (uint32_t)n[1], q, qn, r, rn);
+    case 13: return imbrolt_register_open(p);
+    case 14:
+        return imbrolt_bill(p, n[0], q, qn, (uint32_t)n[1], r, rn, (uint32_t)n[2], (uint32_t)n[3], s, sn);
+    case 15: return imbrolt_owed(p, n[0], q, qn);
     default: return UINT32_MAX;
     }
 }

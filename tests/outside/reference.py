@@ -3,7 +3,8 @@
     python3 tests/outside/reference.py PROGRAM [WORDS..]
 
 The reference's seeded inputs, of several seeds, are answered by the program `outside` (PROGRAM cases
-WORDS.. and PROGRAM lines WORDS..), by the Python binding and by the reference; all have to agree.
+WORDS.., PROGRAM lines WORDS.. and PROGRAM steps WORDS..), by the Python binding and by the reference;
+all have to agree, of a register on every byte after every step.
 """
 
 import importlib.util
@@ -17,9 +18,12 @@ sys.dont_write_bytecode = True
 ROOT = Path(__file__).resolve().parents[2]
 sys.path.insert(0, str(ROOT / "tests" / "reference"))
 
-from cases import answer_of_case, text_of_numbers
+from cases import answer_of_case, sheet_numbers, text_of_numbers
 from imbrolt.lines import answers_of
+from imbrolt.quantities import Refused
+from imbrolt.register import ENTRY, SIZE
 from inputs import MAKERS, SEED
+from inputs.histories import histories, taken
 from inputs.requests import request_data
 from inputs.seeded import Seeded
 
@@ -100,6 +104,77 @@ def binding_can(case, answer):
     return case[0] != 12 or answer != [10]
 
 
+# Steps on a register: their text, and their answers as the program `outside` writes them.
+
+def text_of_step(step):
+    """Words parted by one space; data and keys in hexadecimal, `-` for none."""
+    name, *rest = step
+    if name == "bill":
+        call, places = rest
+        rest = (call.customer, call.key, call.number, call.band_set.marks, call.price, places,
+                *call.band_set.values)
+    words = [(word.hex() or "-") if isinstance(word, bytes) else str(word) for word in rest]
+    return " ".join([name, *words])
+
+
+def changes(before, after):
+    """Each run of bytes that changed, its place and what is there now."""
+    if before == after:
+        return ""
+    blocks = [start for start in range(0, SIZE, ENTRY.size)
+              if before[start:start + ENTRY.size] != after[start:start + ENTRY.size]]
+    places = {place for start in blocks for place in range(start, min(start + ENTRY.size, SIZE))
+              if before[place] != after[place]}
+    starts = sorted(place for place in places if place - 1 not in places)
+    ends = sorted(place + 1 for place in places if place + 1 not in places)
+    return "".join(f" @{start}:{after[start:end].hex()}" for start, end in zip(starts, ends))
+
+
+def text_of_answer(step, refused, answer, before, after):
+    """A step's answer; of a call with what it changed."""
+    if step[0] == "read":
+        return after.hex()
+    if step[0] in ("open", "put"):
+        return "0"
+    numbers = [refused]
+    if refused == 0:
+        numbers += [*sheet_numbers(answer[0]), answer[1]] if step[0] == "bill" else [answer]
+    return text_of_numbers(numbers).rstrip() + changes(before, after)
+
+
+def answer_by_reference(memory, step):
+    """A step's answer by the reference, on the bytes of a register."""
+    before = bytes(memory)
+    refused, answer = 0, None
+    try:
+        answer = taken(memory, step)
+    except Refused as refusal:
+        refused = refusal.number
+    return text_of_answer(step, refused, answer, before, bytes(memory))
+
+
+def step_by_binding(register, step):
+    """A step's answer by the binding, and the register after it."""
+    before = register.to_bytes()
+    refused, answer = 0, None
+    try:
+        if step[0] == "open":
+            register = binding.Register()
+        elif step[0] == "put":
+            place, data = step[1:]
+            register = binding.Register.from_bytes(
+                before[:place] + data + before[place + len(data):])
+        elif step[0] == "bill":
+            call = step[1]
+            answer = register.bill(call.customer, call.key, call.number, call.band_set.values,
+                                   call.price, call.band_set.marks)
+        elif step[0] == "owed":
+            answer = register.owed(step[1])
+    except binding.Refused as refusal:
+        refused = int(refusal.refusal)
+    return text_of_answer(step, refused, answer, before, register.to_bytes()), register
+
+
 # The comparison.
 
 class Differs(Exception):
@@ -148,6 +223,27 @@ def compare_lines(seed, program):
     return count, None
 
 
+def compare_histories(seed, program):
+    """The number of steps, and the first difference or None."""
+    runs = histories(Seeded(SEED + 1000 * seed), times=2)
+    steps = [step for run in runs for step in run]
+    asked_text = "".join(text_of_step(step) + "\n" for step in steps)
+    answered = asked("steps", asked_text.encode(), program).decode().splitlines()
+    if len(answered) != len(steps):
+        return len(steps), f"{len(answered)} answers to {len(steps)} steps"
+    memory, register = bytearray(SIZE), binding.Register()
+    for place, (step, answer) in enumerate(zip(steps, answered)):
+        wanted = answer_by_reference(memory, step)
+        texts = {"desk_c": answer}
+        if wanted != "10":  # the binding always lends places enough
+            texts["binding"], register = step_by_binding(register, step)
+        for name, text in texts.items():
+            if text != wanted:
+                return len(steps), (f"step {place}, {text_of_step(step)[:600]}\n"
+                                    f"  {name} {text[:600]}\n  reference {wanted[:600]}\n")
+    return len(steps), None
+
+
 def compare(work):
     which, seed, program = work
     try:
@@ -158,7 +254,8 @@ def compare(work):
 
 def main():
     program = sys.argv[1:]
-    works = [(which, seed, program) for seed in SEEDS for which in (compare_cases, compare_lines)]
+    works = [(which, seed, program) for seed in SEEDS
+             for which in (compare_cases, compare_lines, compare_histories)]
     compared = 0
     with Pool(2) as pool:
         for count, difference in pool.imap(compare, works):

@@ -3,7 +3,8 @@
     python3 tests/reference/test_reference.py
 
 Every pencil check, example and slip of document 01, the laws behind the
-numbers, and the worked example of ISO 717-1. The last line counts the tests.
+numbers, the worked example of ISO 717-1, and the register of document 02. The
+last line counts the tests.
 """
 
 import struct
@@ -16,7 +17,7 @@ from itertools import accumulate, combinations, product
 sys.dont_write_bytecode = True
 
 from cases import OPERATIONS, answer_of_case, answers_of_cases
-from imbrolt import energies, lift, quantities, rating, rooms
+from imbrolt import energies, lift, quantities, rating, register, rooms
 from imbrolt.energies import B, F, G, H
 from imbrolt.lines import (
     KEY, answer_line, answer_line_into, answers_of, band_of_text, request_of_line)
@@ -25,6 +26,7 @@ from imbrolt.quantities import (
 from imbrolt.rating import position_of, rating_of, sheet_of, total_deficit
 from inputs import inputs_of
 from inputs.curves import bits_nearest, measured
+from inputs.histories import histories, taken
 from inputs.ratings import (
     ISO_EXAMPLE, any_value_set, mixed_ends_set, near_limit_set, near_whole_mean_set, pencil_set,
     small_value_set)
@@ -828,6 +830,294 @@ def test_runs_answer_each_line_once_in_order():
     same(answers[-1] + b"\n", NO_REQUEST)
     same({answer.split(b"\t")[2] for answer in answers}, {b"0", b"1", b"3", b"4", b"11"})
     assert max(map(len, asked)) == 199999 and len(data) < 1200000
+
+
+# The register.
+
+OCTAVES = (240, 330, 400, 430, 440)
+
+
+def call_of(customer, key, price, values=OCTAVES, number=1, marks=0):
+    """A call with a set of its own length."""
+    return register.Call(customer, key, number, whole_set(values, marks), price)
+
+
+def memory_of(calls):
+    """The bytes of a register that was opened and then got these calls, all accepted."""
+    memory = bytearray(register.SIZE)
+    for call in calls:
+        register.bill_in(memory, call, register.BILL_PLACES)
+    return memory
+
+
+def same_bytes(have, want, about=""):
+    """Fails unless both are equal; names the first place where they differ."""
+    same(len(have), len(want), about)
+    if have != want:
+        place = next(place for place in range(len(have)) if have[place] != want[place])
+        raise AssertionError(f"{about}: byte {place} is {have[place]}, not {want[place]}")
+
+
+def charge_of(memory, call):
+    """What a call is charged, or the number of its refusal, negative."""
+    try:
+        return register.bill_in(memory, call, register.BILL_PLACES)[1]
+    except Refused as refused:
+        return -refused.number
+
+
+def test_register_opens_empty():
+    memory = bytearray(b"x" * register.SIZE)
+    register.open_in(memory)
+    same_bytes(memory, bytes(57352))
+    same(register.register_of_bytes(memory), {})
+    same(register.owed_in(memory, 7, 1), 0)
+
+
+def test_month_of_two_customers():
+    """Charges and totals worked out by hand."""
+    memory = bytearray(register.SIZE)
+    for call, charge, totals in (
+            (call_of(7, b"W-1", 500), 500, (500, 0)),
+            (call_of(7, b"W-1", 500), 0, (500, 0)),
+            (call_of(7, b"W-1", 900), 0, (500, 0)),
+            (call_of(8, b"W-1", 900), 900, (500, 900)),
+            (call_of(7, b"W-2", 0), 0, (500, 900)),
+            (call_of(7, b"W-2", 300), 0, (500, 900)),
+            (call_of(7, b"w-1", 20), 20, (520, 900)),
+            (call_of(7, b"W-1", 500, values=(240, 330, 400, 430, 441)), -17, (520, 900)),
+            (call_of(7, b"W-3", 1000001), -16, (520, 900)),
+            (call_of(7, b"W-3", 1000000), 1000000, (1000520, 900)),
+            (call_of(8, b"W-3", 5, values=4 * (400,)), -1, (1000520, 900)),
+            (call_of(8, b"W-3", 5), 5, (1000520, 905))):
+        same(charge_of(memory, call), charge, call)
+        same(tuple(register.owed_in(memory, customer, 1) for customer in (7, 8)), totals, call)
+    same(register.owed_in(memory, 9, 1), 0, "a customer without entries")
+    entered = register.register_of_bytes(memory)
+    same(list(entered), [(7, b"W-1"), (8, b"W-1"), (7, b"W-2"), (7, b"w-1"), (7, b"W-3"),
+                         (8, b"W-3")])
+    same([entry.price for entry in entered.values()], [500, 900, 0, 20, 1000000, 5])
+    same_bytes(register.bytes_of_register(entered), memory)
+
+
+def test_entry_byte_by_byte():
+    """A key of two letters and five bands, typed as the layout has them."""
+    memory = memory_of([call_of(0x0102, b"K2", 1000, marks=0xFFF1)])
+    entry = (b"\x02\x01" + bytes(6) + b"K2" + bytes(30)
+             + b"\xf0\0\0\0\x4a\x01\0\0\x90\x01\0\0\xae\x01\0\0\xb8\x01\0\0" + bytes(44)
+             + b"\xe8\x03\0\0" + b"\x11\0" + b"\x02" + b"\x01")
+    same(len(entry), 112)
+    same_bytes(memory, entry + bytes(511 * 112) + b"\x01" + bytes(7))
+
+
+def test_retry_gets_the_same_sheet():
+    for number, kind in enumerate(KINDS):
+        for values in varied_sets(13, kind, 6):
+            call = call_of(1, b"k", 70, values, number, 1 << kind.bands - 1)
+            memory = bytearray(register.SIZE)
+            want = sheet_of(kind, call.band_set)
+            same(register.bill_in(memory, call, 7), (want, 70))
+            kept = bytes(memory)
+            same(register.bill_in(memory, call._replace(price=71), 7), (want, 0))
+            same_bytes(memory, kept, "after a retry")
+
+
+def test_other_bands_or_kind():
+    """What tells a retry from another request under its key."""
+    memory = memory_of([call_of(1, b"k", 70, marks=0b00100)])
+    kept = bytes(memory)
+    again = call_of(1, b"k", 0, marks=0b00100)
+    for call, charge in (
+            (again, 0), (again._replace(band_set=whole_set(OCTAVES, 0xFFFFFFE4)), 0),
+            (again._replace(band_set=whole_set(OCTAVES)), -17),
+            (again._replace(band_set=whole_set(OCTAVES, 0b00101)), -17),
+            (again._replace(number=3), -17),
+            (again._replace(number=0, band_set=whole_set(16 * [400])), -17)):
+        same(charge_of(memory, call), charge, call)
+    for band in range(5):
+        values = list(OCTAVES)
+        values[band] += 1
+        same(charge_of(memory, again._replace(band_set=whole_set(values, 0b00100))), -17, band)
+    same_bytes(memory, kept)
+
+
+def full_memory(first):
+    """512 entries, the first of them this call's."""
+    return memory_of([first] + [call_of(1, b"other-%d" % place, 1) for place in range(511)])
+
+
+def test_full_register():
+    known = call_of(7, b"known", 12)
+    memory = full_memory(known)
+    kept = bytes(memory)
+    same(charge_of(memory, call_of(7, b"new", 12)), -18)
+    same(charge_of(memory, call_of(1, b"known", 12)), -18)
+    same(charge_of(memory, known), 0, "a retry is answered")
+    same(charge_of(memory, call_of(7, b"known", 12, number=3)), -17)
+    same((register.owed_in(memory, 7, 1), register.owed_in(memory, 1, 1)), (12, 511))
+    same_bytes(memory, kept)
+
+
+# Each changes a retry of a key in a full register so that it is refused with a number.
+FAULTS = {
+    11: lambda call: call._replace(key=b"kn own"),
+    1: lambda call: call._replace(band_set=call.band_set._replace(length=4)),
+    4: lambda call: call._replace(band_set=call.band_set._replace(values=5 * (1501,))),
+    16: lambda call: call._replace(price=1000001),
+    17: lambda call: call._replace(number=3),
+    18: lambda call: call._replace(customer=8),
+}
+ORDER = (19, 11, 1, 4, 16, 17, 18, 10)
+
+
+def refused_bill(memory, faults):
+    """The number that a call with these faults is refused with, the register unchanged."""
+    call = call_of(7, b"known", 12)
+    memory = bytearray(memory)
+    if 19 in faults:
+        memory[register.COUNT_AT + 1] ^= 1
+    for fault in faults:
+        call = FAULTS.get(fault, lambda call: call)(call)
+    kept = bytes(memory)
+    number = refusal_of(register.bill_in, memory, call, 6 if 10 in faults else 7)
+    same_bytes(memory, kept, faults)
+    return number
+
+
+def test_register_refusals_in_order():
+    """Each alone, and of each two that can both apply the first."""
+    memory = full_memory(call_of(7, b"known", 12))
+    same(refused_bill(memory, ()), 0)
+    for number in ORDER:
+        same(refused_bill(memory, (number,)), number)
+    never = ((11, 17), (17, 18))  # no key of another shape is known, and no known one is new
+    for first, second in combinations(ORDER, 2):
+        if (first, second) not in never:
+            same(refused_bill(memory, (first, second)), first, (first, second))
+    same(refusal_of(register.bill_in, memory, call_of(7, b"", 12, number=4), 7), 11)
+    for number in (4, 255, 256, 257, 2 ** 32 - 1):
+        call = call_of(7, b"known", 1000001, 5 * (1501,), number)
+        same(refusal_of(register.bill_in, memory, call, 7), 1, "no kind")
+
+
+def test_owed_refusals_in_order():
+    memory = memory_of([call_of(7, b"k", 12)])
+    same(refusal_of(register.owed_in, memory, 7, 0), 10)
+    memory[register.COUNT_AT + 1] = 2
+    for places in (0, 1):
+        same(refusal_of(register.owed_in, memory, 7, places), 19)
+
+
+def test_keys_of_the_register():
+    for key, want in ((b"", 11), (b"k" * 32, 0), (b"k" * 33, 11), (b"k" * 65, 11), (b"A-z0", 0),
+                      (b"a_b", 11), (b"k\0", 11), (b"\0", 11), (b"k\n", 11), (b"\xe4", 11)):
+        memory = bytearray(register.SIZE)
+        same(refusal_of(register.bill_in, memory, call_of(7, key, 12), 7), want, key)
+        same(memory[register.COUNT_AT], int(want == 0), key)
+
+
+def damaged_by(memory, place, data):
+    """The refusals of both calls on a register with some bytes replaced."""
+    memory = bytearray(memory)
+    memory[place:place + len(data)] = data
+    kept = bytes(memory)
+    numbers = {refusal_of(register.bill_in, memory, call_of(7, b"K1", 5), 7),
+               refusal_of(register.owed_in, memory, 7, 1)}
+    if numbers == {19}:
+        same_bytes(memory, kept, place)
+    return numbers
+
+
+def word_bytes(number, size=4):
+    return number.to_bytes(size, "little", signed=number < 0)
+
+
+def test_damages():
+    """Each of the five, at every edge, in the first entry and the last."""
+    thirds = tuple(range(300, 316))
+    memory = memory_of([call_of(7, b"K1", 5), call_of(8, b"K" * 32, 5, thirds, 2)])
+    same(damaged_by(memory, 0, b""), {0})
+    for place, good, bad in (
+            (register.COUNT_AT, (0, 1, 2), (513, 2 ** 32, 2 ** 63, 2 ** 64 - 1)),
+            (104, (0, 1000000), (1000001, 2 ** 32 - 1)), (216, (0, 1000000), (1000001, 2 ** 31)),
+            (40, (240,), (-201, 1501, -2 ** 31)), (56, (440,), (-201, 1501)),
+            (60, (-201, 1501), ()), (152, (-200, 1500), (-201, 1501)),
+            (212, (-200, 1500), (-201, 1501, 2 ** 31 - 1))):
+        size = 8 if place == register.COUNT_AT else 4
+        for numbers, want in ((good, {0}), (bad, {19})):
+            for number in numbers:
+                same(damaged_by(memory, place, word_bytes(number, size)), want, (place, number))
+    for number in range(4, 256):
+        same(damaged_by(memory, 111, bytes([number])), {19}, "kind")
+    for length in (0, 3, 32, 33, 255):
+        same(damaged_by(memory, 110, bytes([length])), {19}, "length over zeros")
+    for length in range(256):
+        want = {0} if 1 <= length <= 32 else {19}
+        same(damaged_by(memory, 222, bytes([length])), want, "length over letters")
+    for byte in range(256):
+        allowed = KEY.fullmatch(bytes([byte])) is not None
+        for place in (9, 151):
+            same(damaged_by(memory, place, bytes([byte])), {0} if allowed else {19}, byte)
+        same(damaged_by(memory, 10, bytes([byte])), {0}, "past the key")
+    twice = bytes(memory[:112])
+    same(damaged_by(memory, 112, twice), {19}, "one customer and key twice")
+    same(damaged_by(memory, 112, word_bytes(8, 8) + twice[8:]), {0}, "another customer")
+    same(damaged_by(memory, 112, twice[:10] + b"x" + twice[11:]), {19}, "past the key")
+    same(damaged_by(memory, 112, twice[:10] + b"x" + twice[11:110] + b"\3\1"), {0}, "K1x")
+    same(damaged_by(memory, 224, twice), {0}, "from the count on")
+
+
+def test_what_never_matters_in_a_register():
+    """Junk past keys, bands and count: the same answers, and it is left as it is."""
+    calls = [call_of(7, b"K1", 5, marks=1), call_of(8, b"K1", 6, number=3)]
+    memory = memory_of(calls)
+    junk = bytearray(b"\xee" * register.SIZE)
+    for start in (0, 112):
+        for place, size in ((0, 10), (40, 20), (104, 4), (110, 2)):
+            junk[start + place:start + place + size] = \
+                memory[start + place:start + place + size]
+        junk[start + 108:start + 110] = word_bytes(0xFFE0 | memory[start + 108], 2)
+    junk[register.COUNT_AT:] = memory[register.COUNT_AT:]
+    kept = bytes(junk)
+    same([charge_of(junk, call) for call in calls], [0, 0])
+    same([register.owed_in(junk, customer, 1) for customer in (7, 8)], [5, 6])
+    same_bytes(junk, kept)
+    new = call_of(7, b"K", 9)
+    same(charge_of(junk, new), 9)
+    want = bytearray(kept)
+    want[224:336] = memory_of([new])[:112]
+    want[register.COUNT_AT] = 3
+    same_bytes(junk, want, "one entry and the count are written, nothing else")
+
+
+def total_by_the_calls(accepted, customer):
+    """Over all accepted calls: each distinct key once, the first price counting."""
+    keys = {call.key for call in accepted if call.customer == customer}
+    return sum(next(call.price for call in accepted
+                    if (call.customer, call.key) == (customer, key)) for key in keys)
+
+
+def test_totals_over_histories():
+    """By the calls accepted since the register was opened empty; every refusal is met."""
+    met = set()
+    for steps in histories(Seeded(14)):
+        memory = bytearray(register.SIZE)
+        accepted, opened = [], True
+        for step in steps:
+            number = refusal_of(taken, memory, step)
+            met.add((step[0], number))
+            if step[0] in ("open", "put"):
+                accepted, opened = [], step[0] == "open"
+            elif step[0] == "bill" and number == 0:
+                accepted.append(step[1])
+        if opened:
+            for customer in {call.customer for call in accepted} | {0}:
+                same(register.owed_in(memory, customer, 1),
+                     total_by_the_calls(accepted, customer), customer)
+            entered = register.register_of_bytes(memory)
+            same_bytes(register.bytes_of_register(entered), memory)
+    for word, numbers in (("bill", {0, 1, 4, 10, 11, 16, 17, 18, 19}), ("owed", {0, 10, 19})):
+        same({number for one, number in met if one == word}, numbers, word)
 
 
 # The stored inputs.

@@ -2,10 +2,13 @@
 //!
 //! Each answers 0 or a refusal's number, as `include/imbrolt.h` says; the typed calls of the crate
 //! stand on these.
-// Safe: each C function reads and writes within the slices that it is given, and they are borrowed
-// for the length of the call; a slice that is lent to write is lent to nothing else.
+// Safe: each C function reads and writes within the slices and the register that it is given, and
+// they are borrowed for the length of the call; what is lent to write is lent to nothing else.
 
 use crate::sys;
+
+/// A register as it stands in memory: 512 entries of 112 bytes and their count, as words.
+pub type Register = [u64; 7169];
 
 /// Intake of a reading: tenths, limit.
 pub fn reading(mark: u32, value: f32, out: &mut [i32]) -> u32 {
@@ -143,4 +146,43 @@ pub fn block(input: &[u8], skipping: u32, last: u32, out: &mut [u8], progress: &
             progress.len(),
         )
     }
+}
+
+/// Opens a register empty.
+pub fn register_open(register: &mut Register) -> u32 {
+    unsafe { sys::imbrolt_register_open(register.as_mut_ptr()) }
+}
+
+/// A call on a register: the sheet as [`rate`], and what is charged now.
+#[allow(clippy::too_many_arguments)] // as C has them
+pub fn bill(
+    register: &mut Register,
+    customer: u64,
+    key: &[u8],
+    kind: u32,
+    values: &[i32],
+    marks: u32,
+    price: u32,
+    out: &mut [i32],
+) -> u32 {
+    unsafe {
+        sys::imbrolt_bill(
+            register.as_mut_ptr(),
+            customer,
+            key.as_ptr(),
+            key.len(),
+            kind,
+            values.as_ptr(),
+            values.len(),
+            marks,
+            price,
+            out.as_mut_ptr(),
+            out.len(),
+        )
+    }
+}
+
+/// The total of a customer.
+pub fn owed(register: &Register, customer: u64, out: &mut [i32]) -> u32 {
+    unsafe { sys::imbrolt_owed(register.as_ptr(), customer, out.as_mut_ptr(), out.len()) }
 }

@@ -12,19 +12,21 @@
 //! # Ok::<(), imbrolt::Refusal>(())
 //! ```
 //!
-//! Measured values are whole [`Tenths`] of a decibel, ratings and terms whole [`Decibels`]. Limit
-//! marks of a set are a `u16`, bit i the mark of band i, band 0 the lowest. A refused call answers a
-//! [`Refusal`] and changes nothing that was lent to it.
+//! Measured values are whole [`Tenths`] of a decibel, ratings and terms whole [`Decibels`], prices
+//! whole [`Fen`]. Limit marks of a set are a `u16`, bit i the mark of band i, band 0 the lowest. A
+//! refused call answers a [`Refusal`] and changes nothing that was lent to it.
 //!
 //! [`door`] has the same calls on bare numbers, as C has them.
 
 pub mod door;
+mod register;
 mod sys;
 mod types;
 
+pub use register::Register;
 pub use types::{
-    Bands, Cover, Decibels, Grade, Kind, Progress, RawBand, Reading, Refusal, Sheet, Side, Tenths,
-    Value,
+    Bands, Billed, Cover, Decibels, Fen, Grade, Kind, Progress, RawBand, Reading, Refusal, Sheet,
+    Side, Tenths, Value,
 };
 
 /// The numbers that a call writes, or its refusal.

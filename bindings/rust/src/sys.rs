@@ -1,4 +1,6 @@
 //! The C functions as `include/imbrolt.h` declares and documents them.
+//!
+//! A register is given by its words, which are its 57352 bytes.
 
 extern "C" {
     pub fn imbrolt_reading(mark: u32, value: f32, out: *mut i32, out_len: usize) -> u32;
@@ -90,4 +92,19 @@ extern "C" {
         progress: *mut u64,
         progress_len: usize,
     ) -> u32;
+    pub fn imbrolt_register_open(register: *mut u64) -> u32;
+    pub fn imbrolt_bill(
+        register: *mut u64,
+        customer: u64,
+        key: *const u8,
+        key_len: usize,
+        kind: u32,
+        values: *const i32,
+        values_len: usize,
+        marks: u32,
+        price: u32,
+        out: *mut i32,
+        out_len: usize,
+    ) -> u32;
+    pub fn imbrolt_owed(register: *const u64, customer: u64, out: *mut i32, out_len: usize) -> u32;
 }

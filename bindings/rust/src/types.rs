@@ -24,6 +24,17 @@ pub struct Tenths(pub i32);
 #[repr(transparent)]
 pub struct Decibels(pub i32);
 
+/// A price, a charge or a total in whole fen.
+///
+/// It is neither [`Tenths`] nor [`Decibels`]:
+///
+/// ```compile_fail
+/// let price: imbrolt::Fen = imbrolt::Tenths(520);
+/// ```
+#[derive(Clone, Copy, Debug, Default, PartialEq, Eq, PartialOrd, Ord, Hash)]
+#[repr(transparent)]
+pub struct Fen(pub u32);
+
 impl Decibels {
     /// The same level in tenths; the extreme tenths where it has none.
     pub fn in_tenths(self) -> Tenths {
@@ -42,6 +53,12 @@ impl fmt::Display for Tenths {
 impl fmt::Display for Decibels {
     fn fmt(&self, to: &mut fmt::Formatter<'_>) -> fmt::Result {
         write!(to, "{} dB", self.0)
+    }
+}
+
+impl fmt::Display for Fen {
+    fn fmt(&self, to: &mut fmt::Formatter<'_>) -> fmt::Result {
+        write!(to, "{} fen", self.0)
     }
 }
 
@@ -117,14 +134,23 @@ pub enum Refusal {
     TargetRange = 9,
     /// A lent slice is too small for the answer, or an offset lies past its end.
     OutputTooSmall = 10,
-    /// The line is not a request. It stands in answer lines; no call is refused with it.
+    /// The line is not a request, which stands in answer lines; or the key of
+    /// [`Register::bill`](crate::Register::bill) is none.
     NotARequest = 11,
     /// The specimens are not 48 values.
     NotSpecimens = 12,
+    /// The price lies above 1,000,000 fen.
+    PriceRange = 16,
+    /// The customer used the key with another kind or other bands.
+    OtherBands = 17,
+    /// The register has no room for a new key.
+    RegisterFull = 18,
+    /// No calls could have left the register so.
+    RegisterDamaged = 19,
 }
 
 impl Refusal {
-    const ALL: [Refusal; 12] = [
+    const ALL: [Refusal; 16] = [
         Refusal::BandCount,
         Refusal::NotFinite,
         Refusal::ReadingMissing,
@@ -137,14 +163,18 @@ impl Refusal {
         Refusal::OutputTooSmall,
         Refusal::NotARequest,
         Refusal::NotSpecimens,
+        Refusal::PriceRange,
+        Refusal::OtherBands,
+        Refusal::RegisterFull,
+        Refusal::RegisterDamaged,
     ];
 
-    /// Its number, 1 to 12.
+    /// Its number, 1 to 12 or 16 to 19.
     pub fn number(self) -> u32 {
         self as u32
     }
 
-    /// The refusal of a number from 1 to 12.
+    /// The refusal of a number, if there is one.
     pub fn of_number(number: u32) -> Option<Refusal> {
         Refusal::ALL.into_iter().find(|refusal| refusal.number() == number)
     }
@@ -177,6 +207,14 @@ pub struct Sheet {
     pub shifts: u32,
     /// Whether any band is a limit: at least (airborne), at most (impact).
     pub limit: bool,
+}
+
+/// What a call on a register answers.
+#[derive(Clone, Copy, Debug, PartialEq, Eq)]
+pub struct Billed {
+    pub sheet: Sheet,
+    /// The price for a new key, 0 where it was charged before.
+    pub charged: Fen,
 }
 
 /// The improvement by a floor cover.

@@ -93,16 +93,19 @@ fn lift(seeded: &mut Seeded, rest: &[i64]) -> Frame {
 }
 
 /// The numbers of an answer as a case answer has them, `-` for no second term.
-fn answer_of(returned: u32, frame: &Frame) -> String {
+pub fn answer_of(returned: u32, frame: &Frame) -> String {
     if returned != 0 {
         return returned.to_string();
     }
     let mut words = vec!["0".to_string()];
     let mut say = |numbers: &[i32]| words.extend(numbers.iter().map(|number| number.to_string()));
     match frame.call {
-        Call::Rate | Call::RateReadings => {
-            let which = if frame.call == Call::Rate { 1 } else { 2 };
-            let out: &[i32] = frame.array(which);
+        Call::Rate | Call::RateReadings | Call::Bill => {
+            let out: &[i32] = match frame.call {
+                Call::Rate => frame.array(1),
+                Call::RateReadings => frame.array(2),
+                _ => &frame.array(3)[..7],
+            };
             say(&out[..3]);
             say(&out[4..]);
             if out[3] == 0 {
@@ -116,6 +119,8 @@ fn answer_of(returned: u32, frame: &Frame) -> String {
             words.extend(masks.iter().map(|mask| mask.to_string()));
         }
         Call::Cover | Call::Octaves => say(frame.array(1)),
+        Call::Owed => say(&frame.array(1)[..1]),
+        Call::RegisterOpen => (),
         Call::Specimens | Call::Grade => say(frame.array(2)),
         _ => say(frame.array(0)),
     }

@@ -4,11 +4,13 @@ use crate::doors::{Door, PLAIN};
 use crate::frame::{Call, Frame, Part};
 use crate::inputs::{frame, Lengths};
 use crate::seeded::Seeded;
-use crate::streams;
+use crate::{histories, streams};
+use imbrolt_plain::register::{Entry, Register};
 use std::fmt::{self, Write};
 
-/// The calls that are compared, and how many frames or streams of each.
-pub const PLAN: [(Call, &str, usize); 13] = [
+/// The calls that are compared, and how many frames or streams of each; of a register, how many
+/// calls in histories.
+pub const PLAN: [(Call, &str, usize); 14] = [
     (Call::Reading, "reading", 200_000),
     (Call::Rate, "rate", 250_000),
     (Call::RateReadings, "rate_readings", 100_000),
@@ -22,6 +24,7 @@ pub const PLAN: [(Call, &str, usize); 13] = [
     (Call::Lift, "lift", 50_000),
     (Call::Line, "line", 150_000),
     (Call::Block, "block", 2_000),
+    (Call::Bill, "register", 220_000),
 ];
 
 /// Frames are made and sent so many at a time.
@@ -45,8 +48,13 @@ pub fn all(door: &mut Door, wanted: &[String], part: usize) -> Compared {
             compared += streams;
             continue;
         }
-        let mut tally = every_length(door, &mut seeded, call)?;
-        tally.add(&random(door, &mut seeded, call, count / part)?);
+        let tally = if call == Call::Bill {
+            histories::compare(door, &mut seeded, count / part)?
+        } else {
+            let mut tally = every_length(door, &mut seeded, call)?;
+            tally.add(&random(door, &mut seeded, call, count / part)?);
+            tally
+        };
         println!("  {name}: {tally}");
         compared += tally.total();
     }
@@ -54,20 +62,20 @@ pub fn all(door: &mut Door, wanted: &[String], part: usize) -> Compared {
 }
 
 /// How often calls returned 0 and each refusal.
-pub struct Tally([usize; 13]);
+pub struct Tally([usize; 20]);
 
 impl Tally {
-    fn of(returned: &[u32]) -> Tally {
-        let mut tally = Tally([0; 13]);
+    pub fn of(returned: &[u32]) -> Tally {
+        let mut tally = Tally([0; 20]);
         returned.iter().for_each(|&number| tally.0[number as usize] += 1);
         tally
     }
 
-    fn add(&mut self, other: &Tally) {
+    pub fn add(&mut self, other: &Tally) {
         self.0.iter_mut().zip(other.0).for_each(|(count, more)| *count += more);
     }
 
-    fn total(&self) -> usize {
+    pub fn total(&self) -> usize {
         self.0.iter().sum()
     }
 }
@@ -121,15 +129,17 @@ pub fn same(door: &mut Door, frames: Vec<Frame>) -> Result<Tally, String> {
         by_plain.extend(plain.iter_mut().map(|frame| PLAIN.make(frame)));
     });
     for at in 0..frames.len() {
-        if by_proved[at] != by_plain[at] || proved[at] != plain[at] {
-            return Err(told(
-                &frames[at],
-                (by_proved[at], &proved[at]),
-                (by_plain[at], &plain[at]),
-            ));
-        }
+        agree(&frames[at], (by_proved[at], &proved[at]), (by_plain[at], &plain[at]))?;
     }
     Ok(Tally::of(&by_plain))
+}
+
+/// Whether both returned the same for what was asked, and left the same.
+pub fn agree(asked: &Frame, proved: (u32, &Frame), plain: (u32, &Frame)) -> Result<(), String> {
+    if proved == plain {
+        return Ok(());
+    }
+    Err(told(asked, proved, plain))
 }
 
 /// A difference in words.
@@ -157,20 +167,24 @@ fn told(asked: &Frame, proved: (u32, &Frame), plain: (u32, &Frame)) -> String {
 fn whereabouts(frame: &Frame, place: usize) -> String {
     let sizes = sizes(frame.call);
     for (which, (Part { start, length }, size)) in frame.parts.iter().zip(sizes).enumerate() {
-        if (*start..start + length * size).contains(&place) {
-            return format!("array {which}, element {}", (place - start) / size);
+        let within = place.wrapping_sub(*start);
+        if within < length * size {
+            let size = if size == size_of::<Register>() { size_of::<Entry>() } else { size };
+            return format!("array {which}, element {}, its byte {}", within / size, within % size);
         }
     }
     "in no array".into()
 }
 
 /// The sizes of the elements of a call's arrays.
-fn sizes(call: Call) -> [usize; 3] {
+fn sizes(call: Call) -> [usize; 4] {
     match call {
-        Call::RateReadings | Call::Specimens | Call::Grade => [1, 4, 4],
-        Call::Lift => [4, 2, 4],
-        Call::Line | Call::Block => [1, 1, 8],
-        _ => [4, 4, 4],
+        Call::RateReadings | Call::Specimens | Call::Grade => [1, 4, 4, 1],
+        Call::Lift => [4, 2, 4, 1],
+        Call::Line | Call::Block => [1, 1, 8, 1],
+        Call::RegisterOpen | Call::Bill => [size_of::<Register>(), 1, 4, 4],
+        Call::Owed => [size_of::<Register>(), 4, 1, 1],
+        _ => [4, 4, 4, 1],
     }
 }
 
@@ -184,7 +198,7 @@ pub fn shown(frame: &Frame) -> String {
         let length = frame.parts[which].length;
         write!(text, ", array {which} of {length}: ").unwrap();
         match (frame.call, size) {
-            (Call::Line | Call::Block, 1) => {
+            (Call::Line | Call::Block | Call::Bill, 1) => {
                 write!(text, "\"{}\"", frame.array::<u8>(which).escape_ascii())
             }
             (_, 1) => write!(text, "{:?}", frame.array::<u8>(which)),
@@ -192,6 +206,9 @@ pub fn shown(frame: &Frame) -> String {
                 write!(text, "{:x?}", frame.array::<u32>(which))
             }
             (_, 4) => write!(text, "{:?}", frame.array::<i32>(which)),
+            (Call::Bill | Call::Owed, _) => {
+                write!(text, "count {}", frame.array::<Register>(which)[0].count)
+            }
             _ => write!(text, "(junk)"),
         }
         .unwrap();

@@ -1,11 +1,11 @@
 //! The doors through which a frame's call is made.
 
-use crate::frame::{Call, Frame, Part};
+use crate::frame::{Call, Element, Frame, Part};
 use std::io::{Read, Write};
 use std::process::{Child, ChildStdin, ChildStdout, Command, Stdio};
 
-/// The calls of one door, as functions on slices.
-pub struct Calls {
+/// The calls of one door, as functions on slices; R is what the door calls a register.
+pub struct Calls<R> {
     reading: fn(u32, f32, &mut [i32]) -> u32,
     pub rate: fn(u32, &[i32], u32, &mut [i32]) -> u32,
     rate_readings: fn(u32, &[u8], &[f32], &mut [i32]) -> u32,
@@ -19,6 +19,9 @@ pub struct Calls {
     lift: fn(u32, &[i32], u32, i32, &mut [u16], &mut [i32]) -> u32,
     pub line: fn(&[u8], &mut [u8], usize, &mut [u64]) -> u32,
     block: fn(&[u8], u32, u32, &mut [u8], &mut [u64]) -> u32,
+    register_open: fn(&mut R) -> u32,
+    bill: fn(&mut R, u64, &[u8], u32, &[i32], u32, u32, &mut [i32]) -> u32,
+    owed: fn(&R, u64, &mut [i32]) -> u32,
 }
 
 macro_rules! calls_of {
@@ -38,23 +41,26 @@ macro_rules! calls_of {
             lift,
             line,
             block,
+            register_open,
+            bill,
+            owed,
         }
     }};
 }
 
 /// The archive that this program is linked with.
-pub static PROVED: Calls = calls_of!(imbrolt::door);
+pub static PROVED: Calls<imbrolt::door::Register> = calls_of!(imbrolt::door);
 /// The plain implementation.
-pub static PLAIN: Calls = calls_of!(imbrolt_plain::door);
+pub static PLAIN: Calls<imbrolt_plain::register::Register> = calls_of!(imbrolt_plain::door);
 
-impl Calls {
+impl<R: Element> Calls<R> {
     /// Makes the call of a frame, in its memory.
     pub fn make(&self, frame: &mut Frame) -> u32 {
         let [a, b, c, d] = frame.numbers;
         let word = |number: u64| number as u32;
         let signed = |number: u64| number as i32;
         let float = |number: u64| f32::from_bits(number as u32);
-        // A call that has fewer arrays than three leaves the others empty.
+        // A call that has fewer arrays than are taken leaves the others empty.
         match frame.call {
             Call::Reading => (self.reading)(word(a), float(b), frame.arrays::<i32, u8, u8>().0),
             Call::Rate => {
@@ -101,6 +107,15 @@ impl Calls {
                 let (input, out, progress) = frame.arrays();
                 (self.block)(input, word(a), word(b), out, progress)
             }
+            Call::RegisterOpen => (self.register_open)(&mut frame.arrays::<R, u8, u8>().0[0]),
+            Call::Bill => {
+                let (register, key, values, out) = frame.four_arrays::<R, _, _, _>();
+                (self.bill)(&mut register[0], a, key, word(b), values, word(c), word(d), out)
+            }
+            Call::Owed => {
+                let (register, out, _) = frame.arrays::<R, _, u8>();
+                (self.owed)(&register[0], a, out)
+            }
         }
     }
 }
@@ -145,8 +160,8 @@ pub struct Program {
 }
 
 /// The bytes of a frame before its memory: the call, the words of the memory, four numbers, and
-/// the start and length of three arrays.
-const HEAD: usize = 4 + 4 + 4 * 8 + 3 * (4 + 4);
+/// the start and length of four arrays.
+const HEAD: usize = 4 + 4 + 4 * 8 + 4 * (4 + 4);
 
 impl Program {
     pub fn start(words: &[String]) -> std::io::Result<Program> {

@@ -1,6 +1,8 @@
 //! One call as it is made through a door: its numbers, its arrays, and the memory around them.
 
 use crate::seeded::Seeded;
+use imbrolt::door::Register as Words;
+use imbrolt_plain::register::Register;
 
 /// The calls, in the order of `include/imbrolt.h`.
 #[derive(Clone, Copy, Debug, PartialEq, Eq)]
@@ -19,6 +21,9 @@ pub enum Call {
     Lift,
     Line,
     Block,
+    RegisterOpen,
+    Bill,
+    Owed,
 }
 
 /// An array in the memory of a frame: where it starts, in bytes, and how many elements it has.
@@ -32,24 +37,39 @@ pub struct Part {
 ///
 /// All arrays stand in one memory, among junk. Two doors agree on a call when they answer the same
 /// number and leave the same memory: so the junk shows whatever is written where it should not be.
-#[derive(Clone, Debug, PartialEq, Eq)]
+#[derive(Debug, PartialEq, Eq)]
 pub struct Frame {
     pub call: Call,
     /// The numbers of the call in their order, floats by their bits.
     pub numbers: [u64; 4],
-    /// The arrays of the call in their order.
-    pub parts: [Part; 3],
+    /// The arrays of the call in their order; a register is an array of one.
+    pub parts: [Part; 4],
     pub memory: Vec<u64>,
 }
 
-/// A number that fills an array as it is.
-pub trait Element: Copy {}
+impl Clone for Frame {
+    fn clone(&self) -> Frame {
+        Frame { memory: self.memory.clone(), ..*self }
+    }
+
+    /// A frame with a register is large: its memory is used again.
+    fn clone_from(&mut self, other: &Frame) {
+        let mut memory = std::mem::take(&mut self.memory);
+        memory.clone_from(&other.memory);
+        *self = Frame { memory, ..*other };
+    }
+}
+
+/// What fills an array as it is: any bytes of its size are one.
+pub trait Element {}
 impl Element for u8 {}
 impl Element for u16 {}
 impl Element for u32 {}
 impl Element for i32 {}
 impl Element for u64 {}
 impl Element for f32 {}
+impl Element for Words {}
+impl Element for Register {}
 
 impl Frame {
     /// An array of the frame.
@@ -61,10 +81,19 @@ impl Frame {
 
     /// Three arrays of the frame, each to read or to write.
     pub fn arrays<A: Element, B: Element, C: Element>(&mut self) -> (&mut [A], &mut [B], &mut [C]) {
-        let [a, b, c] = [self.within::<A>(0), self.within::<B>(1), self.within::<C>(2)];
+        let (a, b, c, _) = self.four_arrays::<A, B, C, u8>();
+        (a, b, c)
+    }
+
+    /// All arrays of the frame, each to read or to write.
+    pub fn four_arrays<A: Element, B: Element, C: Element, D: Element>(
+        &mut self,
+    ) -> (&mut [A], &mut [B], &mut [C], &mut [D]) {
+        let [a, b] = [self.within::<A>(0), self.within::<B>(1)];
+        let [c, d] = [self.within::<C>(2), self.within::<D>(3)];
         let memory = self.memory.as_mut_ptr();
         // Safe: as above, and the arrays of a frame do not overlap.
-        unsafe { (lent(memory, a), lent(memory, b), lent(memory, c)) }
+        unsafe { (lent(memory, a), lent(memory, b), lent(memory, c), lent(memory, d)) }
     }
 
     fn within<T>(&self, part: usize) -> Part {
@@ -78,6 +107,13 @@ impl Frame {
     pub fn bytes(&self) -> &[u8] {
         // Safe: any number is eight bytes.
         unsafe { std::slice::from_raw_parts(self.memory.as_ptr().cast(), 8 * self.memory.len()) }
+    }
+
+    /// The memory as bytes, to be changed.
+    pub fn bytes_mut(&mut self) -> &mut [u8] {
+        let length = 8 * self.memory.len();
+        // Safe: as above, and any eight bytes are a number.
+        unsafe { std::slice::from_raw_parts_mut(self.memory.as_mut_ptr().cast(), length) }
     }
 }
 
@@ -97,8 +133,17 @@ pub struct Builder<'a> {
 impl Builder<'_> {
     pub fn new(seeded: &mut Seeded, call: Call) -> Builder<'_> {
         let memory = Vec::with_capacity(256);
-        let frame = Frame { call, numbers: [0; 4], parts: [Part::default(); 3], memory };
+        let frame = Frame { call, numbers: [0; 4], parts: [Part::default(); 4], memory };
         Builder { seeded, frame, numbers: 0, parts: 0 }.junk(2)
+    }
+
+    /// Another call on the register of a frame, where it stands.
+    pub fn again(seeded: &mut Seeded, frame: Frame, call: Call) -> Builder<'_> {
+        let Frame { parts: [register, ..], mut memory, .. } = frame;
+        memory.truncate((register.start + size_of::<Register>()) / 8);
+        let parts = [register, Part::default(), Part::default(), Part::default()];
+        let frame = Frame { call, numbers: [0; 4], parts, memory };
+        Builder { seeded, frame, numbers: 0, parts: 1 }.junk(1)
     }
 
     fn junk(mut self, words: usize) -> Self {
@@ -123,7 +168,7 @@ impl Builder<'_> {
     }
 
     /// An array with these contents.
-    pub fn give<T: Element>(self, contents: &[T]) -> Self {
+    pub fn give<T: Element + Copy>(self, contents: &[T]) -> Self {
         let mut builder = self.lend::<T>(contents.len());
         let part = builder.frame.parts[builder.parts - 1];
         // Safe: the array was just made for elements of this type.

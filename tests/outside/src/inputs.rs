@@ -23,7 +23,7 @@ impl Lengths {
     }
 }
 
-/// A frame of a call that has no stream.
+/// A frame of a call that stands alone.
 pub fn frame(seeded: &mut Seeded, call: Call, lengths: Lengths) -> Frame {
     match call {
         Call::Reading => reading(seeded, lengths),
@@ -36,6 +36,7 @@ pub fn frame(seeded: &mut Seeded, call: Call, lengths: Lengths) -> Frame {
         Call::Lift => lift(seeded, lengths),
         Call::Line => line(seeded, lengths),
         Call::Block => unreachable!("blocks come in streams"),
+        Call::RegisterOpen | Call::Bill | Call::Owed => unreachable!("bills come in histories"),
     }
 }
 

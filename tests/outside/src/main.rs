@@ -4,6 +4,7 @@
 //! outside compare [calls=NAME,NAME..] [part=N] [door PROGRAM WORDS..]
 //! outside cases   [door PROGRAM WORDS..]    answers case lines from standard input
 //! outside lines   [door PROGRAM WORDS..]    answers request lines from standard input
+//! outside steps   [door PROGRAM WORDS..]    answers steps on a register from standard input
 //! ```
 //!
 //! `door` names a program that speaks as door.c does, to be compared in place of the archive that
@@ -14,9 +15,12 @@ mod compare;
 mod doors;
 mod floats;
 mod frame;
+mod histories;
 mod inputs;
+mod ledger;
 mod seeded;
 mod sets;
+mod steps;
 mod streams;
 mod texts;
 
@@ -33,14 +37,16 @@ fn main() -> ExitCode {
         [] => Door::Linked,
         [_, words @ ..] => Door::Program(Program::start(words).expect("the door program starts")),
     };
-    let done =
-        match own.first().map(String::as_str) {
-            Some("compare") => compared(&mut door, &own[1..]),
-            Some("cases") => answered_cases(&mut door),
-            Some("lines") => answered_lines(&mut door),
-            _ => Err("usage: outside compare|cases|lines [calls=..] [part=..] [door PROGRAM ..]\n"
-                .into()),
-        };
+    let done = match own.first().map(String::as_str) {
+        Some("compare") => compared(&mut door, &own[1..]),
+        Some("cases") => answered_texts(&mut door, cases::answers),
+        Some("lines") => answered_lines(&mut door),
+        Some("steps") => answered_texts(&mut door, steps::answers),
+        _ => {
+            Err("usage: outside compare|cases|lines|steps [calls=..] [part=..] [door PROGRAM ..]\n"
+                .into())
+        }
+    };
     match done {
         Ok(()) => ExitCode::SUCCESS,
         Err(difference) => {
@@ -64,9 +70,13 @@ fn compared(door: &mut Door, words: &[String]) -> Result<(), String> {
     Ok(())
 }
 
-fn answered_cases(door: &mut Door) -> Result<(), String> {
-    let asked = read_to_string(stdin()).expect("case lines are text");
-    print!("{}", cases::answers(door, &asked)?);
+/// By a call for each line of text.
+fn answered_texts(
+    door: &mut Door,
+    answers: fn(&mut Door, &str) -> Result<String, String>,
+) -> Result<(), String> {
+    let asked = read_to_string(stdin()).expect("lines are text");
+    print!("{}", answers(door, &asked)?);
     Ok(())
 }
 

@@ -4,7 +4,7 @@ use crate::seeded::Seeded;
 
 pub const LEAST: i32 = -200;
 pub const GREATEST: i32 = 1500;
-const OUTSIDE: [i32; 6] = [LEAST - 1, GREATEST + 1, i32::MIN, i32::MAX, -1000, 10_000];
+pub const OUTSIDE: [i32; 6] = [LEAST - 1, GREATEST + 1, i32::MIN, i32::MAX, -1000, 10_000];
 
 /// What the inputs have to know of a kind.
 pub struct Kind {

@@ -3,7 +3,7 @@
 use crate::seeded::Seeded;
 use crate::sets::{accepted, any_value, Kind, KINDS};
 
-const KEY_BYTES: &[u8] = b"ABCXYZabcxyz0123456789-";
+pub const KEY_BYTES: &[u8] = b"ABCXYZabcxyz0123456789-";
 const ODD_BYTES: &[u8] = b"\t\t\t\n.--LAI013 \r\0\xff,+eE";
 const ODD_BANDS: [&[u8]; 32] = [
     b"-", b"", b"0.0", b"-0.0", b"L-0.0", b"L0.0", b"-0.1", b"L-0.1", b"00.0", b"01.5", b"1.00",
@@ -11,7 +11,7 @@ const ODD_BANDS: [&[u8]; 32] = [
     b"L", b"L-", b"--5.0", b"LL5.0", b"-L5.0", b"5.0L", b"5,0", b"+5.0", b" 5.0", b"1e1", b"\0",
 ];
 
-fn key(seeded: &mut Seeded) -> Vec<u8> {
+pub fn key(seeded: &mut Seeded) -> Vec<u8> {
     let length = if seeded.chance(6) { seeded.below(35) } else { 1 + seeded.below(8) };
     (0..length).map(|_| seeded.pick(KEY_BYTES)).collect()
 }

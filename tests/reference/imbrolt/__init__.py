@@ -1,6 +1,6 @@
-"""Document 01 read in whole numbers of any size.
+"""Document 01, and request (x) of document 02, read in whole numbers of any size.
 
-One module for each subject of the document, in its order:
+One module for each subject of the documents, in their order:
 
   quantities  ranges, kinds, refusals, readings            "Quantities and ranges"
   energies    F, H, G, B, u, v, terms, means, c, k         "Sums of energies"
@@ -9,6 +9,7 @@ One module for each subject of the document, in its order:
               covers, grades                               "Background ..", "Covers and grades"
   lift        the lift list                                "The lift list"
   lines       request and answer lines, whole runs         "Request and answer lines"
+  register    request keys, charges, totals, the bytes     02, "Request keys on the bill"
 
 A refusal is the exception Refused with the document's number.
 """

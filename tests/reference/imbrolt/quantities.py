@@ -1,6 +1,7 @@
 """Quantities, ranges, kinds, refusals and readings.
 
-Document 01, sections "Quantities and ranges" and "Refusal numbers".
+Document 01, sections "Quantities and ranges" and "Refusal numbers", with the
+numbers that request (x) of document 02 adds.
 Measured values are whole tenths of a decibel, ratings and terms whole decibels.
 """
 
@@ -21,6 +22,12 @@ TARGET_RANGE = 9
 OUTPUT_TOO_SMALL = 10
 NOT_A_REQUEST = 11
 NOT_SPECIMENS = 12
+
+# Document 02, request (x).
+PRICE_RANGE = 16
+OTHER_BANDS = 17
+REGISTER_FULL = 18
+REGISTER_DAMAGED = 19
 
 
 class Refused(Exception):

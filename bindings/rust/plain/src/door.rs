@@ -5,6 +5,7 @@
 
 use crate::rating::{accepted, bands, sheet, Sheet};
 use crate::refusal::{Answered, BAND_COUNT, NOT_SPECIMENS, OUTPUT_TOO_SMALL};
+use crate::register::{Asked, Register};
 use crate::{intake, lift as lifts, line as lines, rooms};
 
 /// Writes an answer of N numbers: 0, or 10 where the output is too small; or passes a refusal on.
@@ -146,4 +147,40 @@ pub fn block(input: &[u8], skipping: u32, last: u32, out: &mut [u8], progress: &
     }
     let got = lines::block(input, skipping != 0, last != 0, out);
     put(Ok([got.used as u64, got.written as u64, u64::from(got.skipping)]), progress)
+}
+
+/// Opens a register empty.
+pub fn register_open(register: &mut Register) -> u32 {
+    *register = Register::EMPTY;
+    0
+}
+
+/// A call on a register: the sheet as `rate`, and what is charged now.
+#[allow(clippy::too_many_arguments)] // as C has them
+pub fn bill(
+    register: &mut Register,
+    customer: u64,
+    key: &[u8],
+    kind: u32,
+    values: &[i32],
+    marks: u32,
+    price: u32,
+    out: &mut [i32],
+) -> u32 {
+    let billed = match register.billed(&Asked { customer, key, kind, values, marks, price }) {
+        Ok(billed) => billed,
+        Err(refusal) => return refusal,
+    };
+    let [a, b, c, d, e, f] = numbers(billed.sheet, limited(values.len(), marks));
+    let charged = billed.entry.map_or(0, |entry| entry.price as i32);
+    let returned = put(Ok([a, b, c, d, e, f, charged]), out);
+    if let (0, Some(entry)) = (returned, billed.entry) {
+        register.enter(entry);
+    }
+    returned
+}
+
+/// The total of a customer.
+pub fn owed(register: &Register, customer: u64, out: &mut [i32]) -> u32 {
+    put(register.owed(customer).map(|total| [total as i32]), out)
 }

@@ -1,7 +1,7 @@
 //! A second implementation of every call, in plain Rust and whole numbers.
 //!
-//! Nothing here is proved. It is written from document 01 alone, to be compared with the proved
-//! library on many inputs and to be timed beside it. [`door`] has the calls, in the shape of the
+//! Nothing here is proved. It is written from documents 01 and 02 alone, to be compared with the
+//! proved library on many inputs and to be timed beside it. [`door`] has the calls, in the shape of the
 //! C functions of `include/imbrolt.h`: slices and numbers in, 0 or a refusal's number out.
 
 #![no_std]
@@ -14,5 +14,6 @@ mod lift;
 mod line;
 mod rating;
 pub mod refusal;
+pub mod register;
 mod rooms;
 pub mod tables;

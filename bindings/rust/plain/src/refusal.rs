@@ -12,6 +12,10 @@ pub const TARGET_RANGE: u32 = 9;
 pub const OUTPUT_TOO_SMALL: u32 = 10;
 pub const NOT_A_REQUEST: u32 = 11;
 pub const NOT_SPECIMENS: u32 = 12;
+pub const PRICE_RANGE: u32 = 16;
+pub const OTHER_BANDS: u32 = 17;
+pub const REGISTER_FULL: u32 = 18;
+pub const REGISTER_DAMAGED: u32 = 19;
 
 /// An answer, or a refusal's number.
 pub type Answered<T> = Result<T, u32>;

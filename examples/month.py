@@ -1,0 +1,57 @@
+"""A month of a laboratory: sheets of two customers go on one register.
+
+    python3 examples/month.py
+
+The head of bindings/python/imbrolt.py says how the library is made that this needs.
+"""
+
+import sys
+import tempfile
+from pathlib import Path
+
+sys.path.insert(0, str(Path(__file__).resolve().parents[1] / "bindings" / "python"))
+
+from imbrolt import Kind, Refused, Register
+
+DOORS, FLOORS = 1001, 1002  # customer numbers
+DOOR = [240, 330, 400, 430, 440]
+DOOR_WITH_SEAL = [250, 345, 420, 445, 460]
+FLOOR = [670, 675, 680, 685, 690, 695, 700, 705, 710, 715] + 6 * [720]
+
+
+def bill(register, customer, key, kind, values, price):
+    """One request: its sheet and its charge, or why it was refused."""
+    try:
+        sheet, charged = register.bill(customer, key, kind, values, price)
+    except Refused as refused:
+        print(f"{customer} {key.decode()}: {refused}")
+        return
+    print(f"{customer} {key.decode()}: {sheet.rating} dB, {charged} fen")
+
+
+def main():
+    register = Register()
+    bill(register, DOORS, b"door-1", Kind.A1, DOOR, 50000)
+    bill(register, FLOORS, b"floor-1", Kind.I3, FLOOR, 80000)
+
+    # The answer to this one was lost on the way, so the customer's program sends it again.
+    bill(register, DOORS, b"door-2", Kind.A1, DOOR_WITH_SEAL, 50000)
+    bill(register, DOORS, b"door-2", Kind.A1, DOOR_WITH_SEAL, 50000)
+
+    # A key stands for one request; another customer may use the same.
+    bill(register, DOORS, b"door-1", Kind.A1, DOOR_WITH_SEAL, 50000)
+    bill(register, FLOORS, b"door-1", Kind.A1, DOOR, 50000)
+
+    # The register outlives the program: its bytes are kept in a file.
+    with tempfile.TemporaryDirectory() as folder:
+        file = Path(folder) / "register"
+        file.write_bytes(register.to_bytes())
+        register = Register.from_bytes(file.read_bytes())
+
+    bill(register, FLOORS, b"floor-1", Kind.I3, FLOOR, 80000)
+    for customer in (DOORS, FLOORS):
+        print(f"{customer} owes {register.owed(customer)} fen")
+
+
+if __name__ == "__main__":
+    main()
