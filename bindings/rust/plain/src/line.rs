@@ -64,11 +64,22 @@ fn request(line: &[u8]) -> Option<Request> {
     Some(Request { kind, key_end, count, values, limit, length: place + 1 })
 }
 
+/// Whether a byte may stand in a key.
+#[inline(always)]
+fn in_key(byte: u8) -> bool {
+    byte.is_ascii_alphanumeric() || byte == b'-'
+}
+
+/// Whether a text is a key: 1 to 32 letters, digits and hyphens.
+pub fn is_key(text: &[u8]) -> bool {
+    (1..=32).contains(&text.len()) && text.iter().all(|&byte| in_key(byte))
+}
+
 /// Where the tab after a key of 1 to 32 letters, digits and hyphens stands.
 #[inline(always)]
 fn key_end(line: &[u8]) -> Option<usize> {
     let mut end = 3;
-    while byte(line, end).is_ascii_alphanumeric() || byte(line, end) == b'-' {
+    while in_key(byte(line, end)) {
         end += 1;
     }
     let good = byte(line, end) == b'\t' && (4..=35).contains(&end);
