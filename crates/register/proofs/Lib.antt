@@ -1,5 +1,10 @@
+-- Laws of the register.
 pub mod Tests
 pub mod Texts
+pub mod Bands
+pub mod Places
+pub mod Soundness
+pub mod Dues
 pub mod Sameness
 pub mod Seen
 pub mod Grown
