@@ -2,7 +2,7 @@
 -- within the limit over all of ℤ, and the only one; the count of shifts is the distance from the start; what lies past the
 -- stated length never matters. Assumes nothing.
 use mathlib.Core.Path.{_≡_, refl, sym, _∙_, ap, ap₂, subst}
-use mathlib.Core.Bool.{Bool, true, false, cond, _&&_, _||_}
+use mathlib.Core.Bool.{Bool, true, false, cond}
 use mathlib.Core.List.{List, [], _∷_}
 use Prim.Native.Nat.{ℕ, zero, suc, _+_, _*_, _-_, _≤_, _<_}
 use native.Mathlib.Nat.{le-refl, not-suc-le-zero, add-zero, add-suc, suc-add}
@@ -20,9 +20,9 @@ use Rattle.quantity.specs.declared.quantities.BandSet.{BandSet}
 use Rattle.quantity.specs.declared.quantities.Tenths.{Tenths}
 use Rattle.quantity.specs.declared.refusals.Refusal.the-variants.{BandCount, BandRange}
 use Rattle.energy.specs.Energies.{F, u}
-use Rattle.curve.specs.Bands.{allTo, anyTo, bit, accepted, limited}
+use Rattle.curve.specs.Bands.{bit, accepted, limited}
 use Rattle.curve.specs.Levels.{levelAt, startAt}
-use Rattle.curve.proofs.Walks.{all-made}
+use Rattle.curve.proofs.Walks.{all-made, all-same, any-same}
 use Rattle.curve.proofs.Searched.{count-most, count-some, found}
 use Rattle.rating.specs.declared.kinds.Kind.{Kind}
 use Rattle.rating.specs.declared.sheets.Rated.the-variants.{Rating, Refused}
@@ -70,16 +70,6 @@ shifts-true k s acc p h =
     ∙ shifts-distance k (bandOf s)
 
 -- ---- what lies past the stated length does not matter
-pub all-same : (f g : ℕ → Bool) (n : ℕ) → ((i : ℕ) → i < n → f i ≡ g i) → allTo f n ≡ allTo g n
-unfolding allTo
-all-same f g zero h = refl
-all-same f g (suc n) h = ap₂ _&&_ (all-same f g n (λ i q. h i (omega arith))) (h n (le-refl (suc n)))
-
-pub any-same : (f g : ℕ → Bool) (n : ℕ) → ((i : ℕ) → i < n → f i ≡ g i) → anyTo f n ≡ anyTo g n
-unfolding anyTo
-any-same f g zero h = refl
-any-same f g (suc n) h = ap₂ _||_ (any-same f g n (λ i q. h i (omega arith))) (h n (le-refl (suc n)))
-
 pub accepted-same : (s t : BandSet) (n : ℕ) → ((i : ℕ) → i < n → bandOf s i ≡ bandOf t i) → accepted s n ≡ accepted t n
 unfolding accepted
 accepted-same s t n values = all-same (λ j. inRange (bandOf s j)) (λ j. inRange (bandOf t j)) n (λ j h. ap inRange (values j h))

@@ -16,6 +16,7 @@ use Rattle.laws.specs.Lists.{listed}
 use Rattle.laws.specs.Sums.{sumTo}
 use Rattle.laws.proofs.Lists.{length-listed, getD-listed}
 use Rattle.laws.proofs.Sums.{sum-same, sum-more}
+use Rattle.laws.proofs.Tests.{both, both-made}
 use Rattle.quantity.specs.Keys.{keyShape}
 use Rattle.quantity.specs.Quantities.{bandOf, priced}
 use Rattle.quantity.specs.declared.quantities.BandSet.{BandSet}
@@ -24,7 +25,7 @@ use Rattle.quantity.specs.declared.refusals.Refusal.the-variants.{BandCount, Ba
 use Rattle.quantity.proofs.Shapes.{key-shape}
 use Rattle.curve.specs.Bands.{allTo, anyTo, accepted}
 use Rattle.curve.specs.Levels.{Count}
-use Rattle.curve.proofs.Walks.{all-more}
+use Rattle.curve.proofs.Walks.{all-more, all-same, any-same}
 use Rattle.curve.proofs.Searched.{count-most}
 use Rattle.rating.specs.declared.kinds.Kind.{Kind}
 use Rattle.rating.specs.declared.kinds.Named.{Named}
@@ -36,7 +37,7 @@ use Rattle.rating.specs.Kinds.{bandsOf, kindOf, kindNumber}
 use Rattle.rating.specs.Sheets.{asked, sheetOf, ratedOf}
 use Rattle.rating.proofs.Facts.{count-of}
 use Rattle.rating.proofs.Numbered.{kind-of-number}
-use Rattle.rating.proofs.Theorems.{all-same, any-same, past-length}
+use Rattle.rating.proofs.Theorems.{past-length}
 use Rattle.register.specs.declared.entries.Entry.{Entry}
 use Rattle.register.specs.declared.entries.Register.{Register}
 use Rattle.register.specs.Entries.{keyOf, valueOf, setOf, sameText, sameKey, sameBands, isSheet, ratable, keyed, entryOk, Call, nought, keptValue, entryOf}
@@ -47,7 +48,6 @@ use Rattle.register.specs.Histories.Calls.{start, next}
 use Rattle.register.proofs.Sameness.{bit-mod}
 use Rattle.register.proofs.Seen.{Taken, Seen, seen}
 use Rattle.register.proofs.Seen.Seen.{turned, retried, added}
-use Rattle.register.proofs.Tests.{never, refuted, both, both-made}
 
 -- ---- the entry of a call
 

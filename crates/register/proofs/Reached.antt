@@ -14,10 +14,11 @@ use lib.Dec.{eqb, leb, ltb}
 use lib.ListN.{length, getD, take}
 use lib.Seq.{length-take-le}
 use Rattle.laws.specs.Lists.{listed}
+use Rattle.laws.proofs.Tests.{never, refuted, both}
 use Rattle.quantity.specs.Keys.{keyShape}
 use Rattle.quantity.specs.Quantities.{priced}
 use Rattle.curve.specs.Bands.{allTo, anyTo}
-use Rattle.curve.proofs.Walks.{all-at}
+use Rattle.curve.proofs.Walks.{all-at, any-same}
 use Rattle.rating.specs.declared.kinds.Kind.{Kind}
 use Rattle.rating.specs.declared.kinds.Kind.the-variants.{A3}
 use Rattle.rating.specs.declared.kinds.Named.{Named}
@@ -28,7 +29,6 @@ use Rattle.rating.specs.declared.sheets.Rated.the-variants.{Rating, Refused}
 use Rattle.rating.specs.Kinds.{bandsOf, kindOf, kindNumber}
 use Rattle.rating.specs.Sheets.{ratedOf}
 use Rattle.rating.proofs.Numbered.{kind-of-number, kind-number-of}
-use Rattle.rating.proofs.Theorems.{any-same}
 use Rattle.register.specs.declared.entries.Entry.{Entry}
 use Rattle.register.specs.declared.entries.Register.{Register}
 use Rattle.register.specs.Entries.{keyOf, valueOf, setOf, bandsBy, bandsIn, marksTo, sameKey, isSheet, ratable, keyed, entryOk, Call, callOf, keptValue, entryOf}
@@ -41,7 +41,6 @@ use Rattle.register.proofs.Histories.{after-is, held-known}
 use Rattle.register.proofs.Sameness.{same-entry, key-alike, sound-same, due-same}
 use Rattle.register.proofs.Seen.{Taken, Seen, seen, due-placed, place-free}
 use Rattle.register.proofs.Seen.Seen.{turned, retried, added}
-use Rattle.register.proofs.Tests.{never, refuted, both}
 
 -- ---- registers that differ only in what never matters stay so
 

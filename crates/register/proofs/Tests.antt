@@ -1,34 +1,13 @@
--- Tests that are booleans: of both, of all and of some below a number. Assumes nothing.
-use mathlib.Core.Path.{_≡_, refl, sym, _∙_, ap, ap₂, subst}
-use mathlib.Core.Bool.{Bool, true, false, _&&_, _||_, or-true}
+-- Tests of some number below n: that none passes, that one does. Assumes nothing.
+use mathlib.Core.Path.{_≡_, refl, sym, _∙_, ap, ap₂}
+use mathlib.Core.Bool.{Bool, true, false, _||_, or-true}
 use Prim.Native.Nat.{ℕ, zero, suc, _<_}
 use native.Mathlib.Nat.{le-refl}
 use native.Mathlib.Decide.{decLt}
 use native.Mathlib.Omega.{arith}
-use lib.Dec.{T}
+use Rattle.laws.proofs.Tests.{never, refuted}
 use Rattle.curve.specs.Bands.{anyTo}
 
-pub never : {b : Bool} → b ≡ true → b ≡ false → ⊥
-never e f = subst T (sym e ∙ f) tt
-
--- a test that does not hold
-pub refuted : (b : Bool) → (b ≡ true → ⊥) → b ≡ false
-refuted true f = absurd (f refl)
-refuted false f = refl
-
--- two tests that hold together
-pub one-test : (a b : Bool) → (a ≡ true → b ≡ true) → (b ≡ true → a ≡ true) → a ≡ b
-one-test true b f g = sym (f refl)
-one-test false b f g = sym (refuted b (λ e. never (g e) refl))
-
-pub both : (a b : Bool) → a && b ≡ true → (a ≡ true) × (b ≡ true)
-both true b e = (refl, e)
-both false b e = absurd (never e refl)
-
-pub both-made : {a b : Bool} → a ≡ true → b ≡ true → a && b ≡ true
-both-made e f = ap₂ _&&_ e f
-
--- ---- some below n passes
 pub any-none : (ok : ℕ → Bool) (n : ℕ) → ((i : ℕ) → i < n → ok i ≡ false) → anyTo ok n ≡ false
 unfolding anyTo
 any-none ok zero h = refl

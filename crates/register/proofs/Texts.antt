@@ -8,11 +8,11 @@ use borrow.Author.Tests.{eqb-true, eq-eqb}
 use lib.Dec.{eqb}
 use lib.ListN.{length, getD}
 use lib.Seq.{ext-getD}
+use Rattle.laws.proofs.Tests.{both, both-made}
 use Rattle.curve.specs.Bands.{allTo}
 use Rattle.curve.proofs.Walks.{all-at, all-made}
 use Rattle.register.specs.declared.entries.Entry.{Entry}
 use Rattle.register.specs.Entries.{keyOf, sameText, sameKey}
-use Rattle.register.proofs.Tests.{both, both-made}
 
 pub text-same : (s t : List ℕ) → sameText s t ≡ true → s ≡ t
 unfolding sameText
