@@ -6,6 +6,7 @@ use lib.IntN.{ℤ, pos}
 use mathlib.Core.List.{List}
 use Prim.Native.Nat.{ℕ}
 use Rattle.laws.specs.Extremes.{greatest, settle}
+use Rattle.laws.specs.Lists.{listed}
 use Rattle.laws.specs.Sums.{sumTo, sumℤ}
 use Rattle.quantity.specs.Quantities.{halfUp, inRange}
 use Rattle.energy.specs.Energies.{F, energyRule, u, levelRule}
@@ -17,7 +18,7 @@ use Rattle.rating.specs.declared.kinds.Kind.the-variants.{A3}
 use Rattle.rating.specs.Kinds.{referencesOf, referenceOf, spectraC, spectraCtr, C, Ctr}
 use Rattle.rating.specs.Curve.{deficit, total, within, startOf, shifted, firstFrom, shiftsOf, positionOf, ratingOf}
 use Rattle.rating.specs.Terms.{leastTo, greatestTo, weighted, airborneTerm, impactTerm}
-use Rattle.rating.specs.Numbers.{listed, entriesOf}
+use Rattle.rating.specs.Numbers.{entriesOf}
 use Rattle.rating.specs.Sheets.{sheetOf, ratedOf}
 use Rattle.sets.specs.Masks.{choose, masksInOrder, filter}
 use Rattle.lift.specs.Reach.{liftList}
