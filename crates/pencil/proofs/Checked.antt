@@ -25,7 +25,6 @@ use Rattle.lift.specs.Reach.{liftList}
 use Rattle.lift.specs.Calls.{inTargets}
 use Rattle.sets.specs.Gains.{gainsOf, leastOf, listedBy, byGains}
 use Rattle.lift.proofs.Quick.{listable, quickList, quick-is}
-use Rattle.measurement.specs.Lists.{listed as listed-tenths}
 use Rattle.products.specs.Covers.{floor, derivedSet, coverOf}
 use Rattle.pencil.specs.Cases.{All, table, Bands, at, even, dipped, twice-dipped}
 
@@ -34,6 +33,6 @@ by-gains : (kind : Kind) (x : Bands) (t : ℤ) (ms : List ℕ) → T (listable k
 by-gains kind x t ms w e = quick-is kind x t w ∙ e
 
 pub checked : All table
-unfolding table greatest settle sumTo sumℤ halfUp inRange F energyRule u levelRule c k backgroundRule timeRule referencesOf referenceOf spectraC spectraCtr C Ctr deficit total within startOf shifted firstFrom shiftsOf positionOf ratingOf leastTo greatestTo weighted airborneTerm impactTerm accepted limited allTo anyTo listable quickList inTargets listed entriesOf levelBy totalAt byGains listedBy gainsOf leastOf filter masksInOrder choose sheetOf ratedOf listed-tenths floor derivedSet coverOf
+unfolding table greatest settle sumTo sumℤ halfUp inRange F energyRule u levelRule c k backgroundRule timeRule referencesOf referenceOf spectraC spectraCtr C Ctr deficit total within startOf shifted firstFrom shiftsOf positionOf ratingOf leastTo greatestTo weighted airborneTerm impactTerm accepted limited allTo anyTo listable quickList inTargets listed entriesOf levelBy totalAt byGains listedBy gainsOf leastOf filter masksInOrder choose sheetOf ratedOf floor derivedSet coverOf
 checked =
     (refl, (refl, (refl, (refl, (refl, (refl, (by-gains A3 even (pos 53) _ tt refl, (refl, (by-gains A3 dipped (pos 52) _ tt refl, (refl, (by-gains A3 twice-dipped (pos 52) _ tt refl, (refl, (refl, (refl, (refl, (refl, (refl, (refl, (refl, (refl, (refl, tt)))))))))))))))))))))
