@@ -1,7 +1,7 @@
 -- What the shared rating asks of levels, and what it gives: small sums, a least that is reached, totals and energies that are
 -- those of the set, and a search that always ends. Assumes nothing.
 use mathlib.Core.Path.{_≡_, refl, sym, _∙_, ap, ap₂, subst}
-use mathlib.Core.Bool.{Bool, true, false, not, _||_}
+use mathlib.Core.Bool.{Bool, true, not, _||_, or-true, or-false}
 use mathlib.Core.List.{List}
 use mathlib.Core.Logic.{⊎-elim}
 use Prim.Native.Nat.{ℕ, zero, suc, _+_, _*_, _-_, _/_, _%_, _^_, _≤_, _<_, min}
@@ -146,14 +146,6 @@ over-past f n add p h k =
     omega arith
 
 -- ---- the marks: some mark below n is set where the remainder by 2 ^ n is not 0
-or-true : (b : Bool) → b || true ≡ true
-or-true true = refl
-or-true false = refl
-
-or-false : (b : Bool) → b || false ≡ b
-or-false true = refl
-or-false false = refl
-
 or-is : (m n x : ℕ) (b : Bool) → x < 2 → m % 2 ^ suc n ≡ x * 2 ^ n + m % 2 ^ n → b ≡ not (eqb (m % 2 ^ n) 0)
     → b || eqb x 1 ≡ not (eqb (m % 2 ^ suc n) 0)
 or-is m n zero b h e g =

@@ -8,7 +8,8 @@ pub use Rattle.intake.specs.Taken.{takenAnswer}
 -- rating, first term, second term, whether there is one, shifts, mark
 pub use Rattle.rating.specs.Sheets.{termOf, termFlag, sheetNumbers, ratedAnswer}
 -- the values of so many bands, then their marks
-unfoldable pub use Rattle.measurement.specs.Lists.{listed, setNumbers}
+unfoldable pub use Rattle.laws.specs.Lists.{listed}
+unfoldable pub use Rattle.measurement.specs.Lists.{setNumbers}
 pub use Rattle.measurement.specs.Lists.{setAnswer, intakeAnswer}
 -- improvement rating, term, mark
 pub use Rattle.products.specs.Covers.{improvementAnswer}

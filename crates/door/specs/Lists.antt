@@ -6,11 +6,11 @@ use lib.Dec.{ltb}
 use lib.IntN.{ℤ, pos}
 use lib.Ieee.{Float, nan}
 use lib.ListN.{length, getD}
+use Rattle.laws.specs.Lists.{listed}
 use Rattle.quantity.specs.declared.quantities.Tenths.{Tenths}
 use Rattle.quantity.specs.declared.quantities.BandSet.{BandSet}
 use Rattle.quantity.specs.declared.quantities.Reading.{Reading}
 use Rattle.quantity.specs.declared.quantities.Reading.the-variants.{Level, Limit, Missing}
-use Rattle.measurement.specs.Lists.{listed}
 
 -- value i of an array of tenths; 0 past its end (what lies past the stated length never matters to an answer)
 abbrev pub tenthsAt : List ℤ → ℕ → Tenths

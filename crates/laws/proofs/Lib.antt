@@ -5,3 +5,4 @@ pub mod Extremes
 pub mod Sums
 pub mod Table
 pub mod Lists
+pub mod Tests

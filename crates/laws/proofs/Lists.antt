@@ -23,6 +23,9 @@ module _ {A : Type 0} (d : A) (f : ℕ → A) where
   getD-listed (suc k) i zero h = ap f (sym (add-zero i))
   getD-listed (suc k) i (suc j) h = getD-listed k (suc i) j (omega arith) ∙ ap f (omega arith)
 
+  pub listed-at : (k j : ℕ) → j < k → getD (listed f k 0) j d ≡ f j
+  listed-at k j h = getD-listed k 0 j h ∙ ap f (zero-add j)
+
   -- the first i of k entries are those of f
   pub record Agreed (k : ℕ) (l : List A) (i : ℕ) : Type 0 where
     pub within : i ≤ k
@@ -56,7 +59,7 @@ module _ {A : Type 0} (d : A) (f : ℕ → A) where
   pub agreed-all : (k : ℕ) (l : List A) (i : ℕ) → k ≤ i → Agreed k l i → l ≡ listed f k 0
   agreed-all k l i h a =
       ext-getD d l (listed f k 0) (a .whole ∙ sym (length-listed k 0))
-      (λ j g. a .same j (omega (arith, a .whole, a .within)) ∙ ap f (sym (zero-add j)) ∙ sym (getD-listed k 0 j (omega (arith, a .whole))))
+      (λ j g. a .same j (omega (arith, a .whole, a .within)) ∙ sym (listed-at k j (omega (arith, a .whole))))
 
   -- the first n of a longer list, with one more stored after them
   pub agreed-then : (k : ℕ) (l : List A) (n i : ℕ) (v : A) → n < k → n ≤ i → i ≤ n → Agreed k l i → take (n + 1) (set l n v) ≡ listed f n 0 ++ (v ∷ [])

@@ -15,6 +15,7 @@ use lib.Signed.{leZ}
 use Rattle.laws.specs.Parts.{P, N}
 use Rattle.laws.specs.Sums.{sumTo}
 use Rattle.laws.proofs.Ints.{plus, minus, apart, eq-made, lt-yes, le-yes}
+use Rattle.laws.proofs.Lists.{listed-at}
 use Rattle.laws.proofs.Sums.{sum-same, sum-plus}
 use Rattle.quantity.specs.Quantities.{inRange, bandOf}
 use Rattle.quantity.specs.declared.quantities.BandSet.{BandSet}
@@ -29,7 +30,7 @@ use Rattle.rating.specs.declared.kinds.Kind.the-variants.{A3, A1, I3, I1}
 use Rattle.rating.specs.Kinds.{airborne, bandsOf, limitOf, referenceOf}
 use Rattle.rating.specs.Curve.{deficitBy, deficit, total, within, ratingOf}
 use Rattle.rating.specs.Numbers.{entryBy, entriesOf, startAdd, ratingAt, ratingBy}
-use Rattle.rating.proofs.Bridge.{positionBy, EntryOf, entry-parts, deficit-level, listed-is}
+use Rattle.rating.proofs.Bridge.{positionBy, EntryOf, entry-parts, deficit-level}
 use Rattle.rating.proofs.Facts.{count-of, entries-fit}
 use Rattle.rating.proofs.Meaning.{total-is, rating-is}
 use Rattle.sets.specs.Masks.{isMask, smaller, choose, masksInOrder, filter}
@@ -145,7 +146,7 @@ module _ (k : Kind) (s : BandSet) (acc : accepted s (bandsOf k) ≡ true) (t : �
   unfolding deficit entriesOf
   lacking-is i h z r =
       let sixteen : i < 16 = omega (arith, most) in
-      let e : at (entriesOf k) i ≡ entryBy (airborne k) (referenceOf k i) = listed-is (λ j. entryBy (airborne k) (referenceOf k j)) 16 i sixteen in
+      let e : at (entriesOf k) i ≡ entryBy (airborne k) (referenceOf k i) = listed-at 0 (λ j. entryBy (airborne k) (referenceOf k j)) 16 i sixteen in
       ap (λ (v : ℤ). deficitBy (airborne k) v (referenceOf k i) z) at-position
       ∙ deficit-level (airborne k) (referenceOf k i) z p (at (entriesOf k) i) (levelBy (airborne k) z (at (entriesOf k) i))
       (subst (EntryOf (airborne k) (referenceOf k i)) (sym e)

@@ -7,6 +7,8 @@ use native.Mathlib.Omega.{arith}
 use lib.Dec.{T}
 use lib.IntN.{ℤ, pos}
 use lib.ListN.{length, getD, List·getD-map}
+use Rattle.laws.specs.Lists.{listed}
+use Rattle.laws.proofs.Lists.{listed-at}
 use Rattle.quantity.specs.Quantities.{bandOf}
 use Rattle.quantity.specs.declared.quantities.Tenths.{Tenths}
 use Rattle.quantity.specs.declared.quantities.BandSet.{BandSet}
@@ -15,8 +17,7 @@ use Rattle.curve.specs.Levels.{levelBy, levelAt, totalAt}
 use Rattle.rating.specs.declared.kinds.Kind.{Kind}
 use Rattle.rating.specs.Kinds.{airborne, bandsOf, limitOf}
 use Rattle.rating.specs.Curve.{ratingOf}
-use Rattle.rating.specs.Numbers.{listed, entriesOf, ratingAt}
-use Rattle.rating.proofs.Bridge.{listed-is}
+use Rattle.rating.specs.Numbers.{entriesOf, ratingAt}
 use Rattle.sets.specs.Gains.{byGains, gainAt, Gained}
 use Rattle.sets.proofs.Tests.{is-true, and-left, and-right}
 use Rattle.lift.specs.Reach.{betterBy, liftList}
@@ -51,7 +52,7 @@ totalOf k s p = totalAt (levelAt (airborne k) s (entriesOf k)) (bandsOf k) p
 
 gained : (k : Kind) (s : BandSet) (p : ℕ) → Gained (airborne k) s (entriesOf k) (bandsOf k) p (gainsAt k s p) (totalOf k s p)
 gained k s p = record {
-  each = λ i h. listed-is (gainAt (airborne k) s (entriesOf k) p) (bandsOf k) i h;
+  each = λ i h. listed-at 0 (gainAt (airborne k) s (entriesOf k) p) (bandsOf k) i h;
   rest = λ i h. listed-past (gainAt (airborne k) s (entriesOf k) p) (bandsOf k) 0 i h;
   all = refl;
 }

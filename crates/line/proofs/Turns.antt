@@ -8,6 +8,7 @@ use borrow.Author.Tests.{le-leb, lt-leb, leb-true, leb-false, eq-eqb, ne-eqb, eq
 use lib.Dec.{leb, eqb}
 use lib.ListN.{length, take, drop, length-drop, drop-of-length-le, take-append-drop}
 use lib.Seq.{drop-cons}
+use Rattle.quantity.specs.Keys.{byteAt}
 use Rattle.quantity.specs.declared.refusals.Refusal.{Refusal}
 use Rattle.quantity.specs.declared.refusals.Refusal.the-variants.{NoRoom}
 use Rattle.reply.specs.declared.requests.Reply.{Reply}
@@ -15,7 +16,7 @@ use Rattle.line.specs.declared.lines.Wrote.{Wrote}
 use Rattle.line.specs.declared.lines.Wrote.the-variants as wrote
 use Rattle.line.specs.declared.blocks.Piece.{Piece}
 use Rattle.line.specs.declared.blocks.Turn.{Turn}
-use Rattle.request.specs.Reading.{byteAt, Asked, requestAt}
+use Rattle.request.specs.Reading.{Asked, requestAt}
 use Rattle.request.specs.Reading.Asked.{asked}
 use Rattle.reply.specs.Answers.{judged, noReply, replyTo, replyAt, replyText}
 use Rattle.line.specs.Answers.{fitsAt, placed, wroteOf}

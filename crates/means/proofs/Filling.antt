@@ -1,31 +1,19 @@
 -- A list that a loop fills from its front, place after place: what is done, and zeros after it. Assumes nothing.
-use mathlib.Core.Path.{_≡_, refl, sym, _∙_, ap, subst}
+use mathlib.Core.Path.{_≡_, sym, _∙_, subst}
 use mathlib.Core.Bool.{cond}
 use mathlib.Core.List.{List}
-use Prim.Native.Nat.{ℕ, zero, suc, _+_, _≤_, _<_}
-use native.Mathlib.Nat.{add-zero, zero-add, lt-irrefl}
+use Prim.Native.Nat.{ℕ, _+_, _≤_, _<_}
+use native.Mathlib.Nat.{lt-irrefl}
 use native.Mathlib.Decide.{decLt}
 use native.Mathlib.Omega.{arith}
 use borrow.Author.Tests.{lt-ltb, le-ltb}
 use lib.Dec.{ltb}
 use lib.ListN.{length, getD, set, replicate, length-set, getD-replicate, length-replicate, List·getD-eq-default}
 use lib.Seq.{getD-set-same, getD-set-other, ext-getD}
+use Rattle.laws.specs.Lists.{listed}
+use Rattle.laws.proofs.Lists.{length-listed, listed-at}
 use Rattle.quantity.specs.declared.quantities.Tenths.{Tenths}
-use Rattle.measurement.specs.Lists.{listed, nought}
-
-length-listed : (f : ℕ → Tenths) (k i : ℕ) → length (listed f k i) ≡ k
-unfolding listed
-length-listed f zero i = refl
-length-listed f (suc k) i = ap suc (length-listed f k (suc i))
-
-listed-from : (f : ℕ → Tenths) (k i j : ℕ) → j < k → getD (listed f k i) j nought ≡ f (i + j)
-unfolding listed
-listed-from f zero i j h = absurd (omega arith)
-listed-from f (suc k) i zero h = ap f (sym (add-zero i))
-listed-from f (suc k) i (suc j) h = listed-from f k (suc i) j (omega arith) ∙ ap f (omega arith)
-
-pub listed-at : (f : ℕ → Tenths) (k j : ℕ) → j < k → getD (listed f k 0) j nought ≡ f j
-listed-at f k j h = listed-from f k 0 j h ∙ ap f (zero-add j)
+use Rattle.measurement.specs.Lists.{nought}
 
 -- of k places the first n hold f, the rest 0
 pub record Filled (f : ℕ → Tenths) (k : ℕ) (out : List Tenths) (n : ℕ) : Type 0 where
@@ -61,8 +49,8 @@ filled-more f k out n v h e w = record {
 pub filled-list : (f : ℕ → Tenths) (k : ℕ) (out : List Tenths) (n : ℕ) → Filled f k out n
     → out ≡ listed (λ i. cond (ltb i n) (f i) nought) k 0
 filled-list f k out n w =
-    ext-getD nought out (listed g k 0) (w .whole ∙ sym (length-listed g k 0))
-    (λ i h. at i (decLt i n) ∙ sym (listed-at g k i (omega (arith, w .whole))))
+    ext-getD nought out (listed g k 0) (w .whole ∙ sym (length-listed nought g k 0))
+    (λ i h. at i (decLt i n) ∙ sym (listed-at nought g k i (omega (arith, w .whole))))
   where
     g : ℕ → Tenths
     g i = cond (ltb i n) (f i) nought
@@ -73,8 +61,8 @@ filled-list f k out n w =
 
 pub filled-whole : (f : ℕ → Tenths) (k : ℕ) (out : List Tenths) (n : ℕ) → k ≤ n → Filled f k out n → out ≡ listed f k 0
 filled-whole f k out n h w =
-    ext-getD nought out (listed f k 0) (w .whole ∙ sym (length-listed f k 0))
-    (λ i p. w .done i (omega (arith, w .whole)) ∙ sym (listed-at f k i (omega (arith, w .whole))))
+    ext-getD nought out (listed f k 0) (w .whole ∙ sym (length-listed nought f k 0))
+    (λ i p. w .done i (omega (arith, w .whole)) ∙ sym (listed-at nought f k i (omega (arith, w .whole))))
 
 -- a list that is a shorter one with zeros after it
 pub filled-same : (values : List Tenths) (k : ℕ) (out : List Tenths) (n : ℕ) → length values ≡ n

@@ -8,6 +8,7 @@ use native.Mathlib.Omega.{arith}
 use borrow.Author.Tests.{lt-ltb}
 use lib.Dec.{ltb}
 use lib.IntN.{ℤ}
+use Rattle.laws.proofs.Lists.{listed-at}
 use Rattle.quantity.specs.Quantities.{inRange, bandOf}
 use Rattle.quantity.specs.declared.quantities.Tenths.{Tenths}
 use Rattle.quantity.specs.declared.quantities.BandSet.{BandSet}
@@ -27,7 +28,6 @@ use Rattle.rating.proofs.Rated.{in-order}
 use Rattle.rooms.specs.Background.{tenths}
 use Rattle.means.specs.Sets.{placed, meanAt, markAt, meansOf, octavesOf, specimensOf}
 use Rattle.means.proofs.Averages.{mean-range}
-use Rattle.means.proofs.Filling.{listed-at}
 use Rattle.means.proofs.Marks.{marks-bit}
 use Rattle.means.proofs.Thirds.{octaves-made, specimens-made, taken-values}
 
@@ -37,7 +37,7 @@ module _ (x : ℕ → ℤ) (marks n step stride : ℕ) (most : n ≤ 16) where
   pub mean-here : (j : ℕ) → j < n → bandOf (meansOf x marks n step stride) j ≡ meanAt x step stride j
   unfolding meansOf
   mean-here j h =
-      ap (λ (t : Tenths). t .0) (listed-at (λ i. cond (ltb i n) (tenths (meanAt x step stride i)) nought) 16 j (omega arith))
+      ap (λ (t : Tenths). t .0) (listed-at nought (λ i. cond (ltb i n) (tenths (meanAt x step stride i)) nought) 16 j (omega arith))
       ∙ rw (lt-ltb j n h)
 
   -- "An octave or specimen mean is a limit if any of its three values is"

@@ -10,13 +10,14 @@ use native.Mathlib.Omega.{arith}
 use borrow.Author.Tests.{lt-ltb, le-ltb, eqb-true, ne-eqb}
 use lib.Dec.{eqb, ltb}
 use lib.IntN.{ℤ, pos}
+use Rattle.laws.specs.Lists.{listed}
 use Rattle.quantity.specs.Quantities.{bandOf}
 use Rattle.quantity.specs.declared.quantities.BandSet.{BandSet}
 use Rattle.quantity.specs.declared.quantities.Reading.{Reading}
 use Rattle.quantity.specs.declared.refusals.Refusal.the-variants.{BandCount, BandRange, SpecimenCount}
 use Rattle.quantity.specs.declared.refusals.Outcome.the-variants.{Accepted}
 use Rattle.measurement.specs.declared.lists.Readings.{Readings}
-use Rattle.measurement.specs.Lists.{weightOf, listed, allOf, refusedList}
+use Rattle.measurement.specs.Lists.{weightOf, allOf, refusedList}
 use Rattle.measurement.proofs.Past.{Alike, all-past}
 use Rattle.curve.specs.Bands.{bit}
 use Rattle.rating.proofs.Theorems.{accepted-same, Stated, past-by}

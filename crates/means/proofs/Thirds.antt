@@ -9,6 +9,7 @@ use borrow.Author.Tests.{eq-eqb, ne-eqb}
 use lib.Dec.{ltb}
 use lib.IntN.{ℤ}
 use lib.ListN.{getD, set, replicate}
+use Rattle.laws.specs.Lists.{listed}
 use Rattle.quantity.specs.Quantities.{inRange, bandOf}
 use Rattle.quantity.specs.declared.quantities.Tenths.{Tenths}
 use Rattle.quantity.specs.declared.quantities.BandSet.{BandSet}
@@ -18,7 +19,7 @@ use Rattle.quantity.specs.declared.refusals.Refusal.the-variants.{BandCount, Ba
 use Rattle.quantity.specs.declared.refusals.Outcome.the-variants.{Accepted, Refused}
 use Rattle.measurement.specs.declared.lists.Readings.{Readings}
 use Rattle.measurement.specs.declared.lists.Intake.{Intake}
-use Rattle.measurement.specs.Lists.{weightOf, listed, nought, allOf, refusedList}
+use Rattle.measurement.specs.Lists.{weightOf, nought, allOf, refusedList}
 use Rattle.measurement.proofs.Runs.{outcome-is, accepted-is}
 use Rattle.measurement.proofs.Meaning.{value-range}
 use Rattle.curve.specs.Bands.{accepted}

@@ -6,6 +6,7 @@ use Prim.Native.Nat.{ℕ, zero, suc, _+_, _*_}
 use lib.Dec.{eqb, ltb}
 use lib.IntN.{ℤ, pos}
 use lib.ListN.{getD}
+use Rattle.laws.specs.Lists.{listed}
 use Rattle.quantity.specs.Quantities.{bandOf}
 use Rattle.quantity.specs.declared.quantities.Tenths.{Tenths}
 use Rattle.quantity.specs.declared.quantities.BandSet.{BandSet}
@@ -15,7 +16,7 @@ use Rattle.quantity.specs.declared.refusals.Outcome.{Outcome}
 use Rattle.quantity.specs.declared.refusals.Outcome.the-variants.{Accepted, Refused}
 use Rattle.measurement.specs.declared.lists.Readings.{Readings}
 use Rattle.measurement.specs.declared.lists.Intake.{Intake}
-use Rattle.measurement.specs.Lists.{weightOf, listed, nought, allOf, refusedList}
+use Rattle.measurement.specs.Lists.{weightOf, nought, allOf, refusedList}
 use Rattle.curve.specs.Bands.{accepted, bit}
 use Rattle.rating.specs.declared.kinds.Kind.the-variants.{A3, A1}
 use Rattle.rating.specs.Kinds.{bandsOf}

@@ -9,13 +9,14 @@ use native.Mathlib.Decide.{decLt}
 use native.Mathlib.Omega.{arith}
 use borrow.Author.Tests.{lt-ltb, le-ltb, eqb-true}
 use lib.Dec.{eqb}
+use Rattle.laws.specs.Lists.{listed}
 use Rattle.quantity.specs.Refusals.{orElse}
 use Rattle.quantity.specs.declared.quantities.Reading.{Reading}
 use Rattle.quantity.specs.declared.refusals.Refusal.the-variants.{BandCount}
 use Rattle.quantity.specs.declared.refusals.Outcome.{Outcome}
 use Rattle.quantity.specs.declared.refusals.Outcome.the-variants.{Accepted, Refused}
 use Rattle.intake.specs.declared.singles.Taken.{Taken}
-use Rattle.measurement.specs.Lists.{takenAt, valueOf, limitOf, outcomeOf, refusalIn, weightOf, marksIn, listed, valueIn, valuesIn, refusedList, allBy, allOf, listBy, listOf}
+use Rattle.measurement.specs.Lists.{takenAt, valueOf, limitOf, outcomeOf, refusalIn, weightOf, marksIn, valueIn, valuesIn, refusedList, allBy, allOf, listBy, listOf}
 
 module _ (a b : List Reading) where
   -- the first n readings of both are taken alike

@@ -4,7 +4,7 @@ use mathlib.Core.Path.{_≡_, refl, sym, _∙_, ap}
 use mathlib.Core.Bool.{Bool, true, false}
 use mathlib.Core.List.{List, [], _∷_, _++_}
 use Prim.Native.Nat.{ℕ, zero, suc, _+_, _-_, _^_, _≤_, _<_}
-use native.Mathlib.Nat.{add-zero, zero-add, two-pow-succ}
+use native.Mathlib.Nat.{zero-add, two-pow-succ}
 use native.Mathlib.Numerals.{add-one}
 use native.Mathlib.Decide.{decLt, ℕ-discrete}
 use native.Mathlib.Omega.{arith}
@@ -12,6 +12,8 @@ use borrow.Author.Tests.{lt-ltb, le-ltb, eq-eqb, ne-eqb}
 use lib.ListN.{length, getD, set, take, replicate, length-set, length-take}
 use lib.Seq.{getD-set-same, getD-set-other, getD-take, ext-getD, take-suc, take-suc-set, take-all}
 use lib.Pow.{pow-mono}
+use Rattle.laws.specs.Lists.{listed}
+use Rattle.laws.proofs.Lists.{length-listed, listed-at}
 use Rattle.quantity.specs.declared.quantities.Tenths.{Tenths}
 use Rattle.quantity.specs.declared.quantities.Reading.{Reading}
 use Rattle.quantity.specs.declared.refusals.Refusal.{Refusal}
@@ -23,30 +25,17 @@ use Rattle.quantity.specs.declared.refusals.Outcome.{Outcome}
 use Rattle.quantity.specs.declared.refusals.Outcome.the-variants.{Accepted, Refused}
 use Rattle.measurement.specs.declared.lists.Readings.{Readings}
 use Rattle.measurement.specs.declared.lists.Intake.{Intake}
-use Rattle.measurement.specs.Lists.{takenAt, nought, valueOf, limitOf, outcomeOf, refusalIn, weightOf, marksIn, listed, valueIn, valuesIn, refusedAll, refusedList, allBy, allOf, listBy, listOf}
-
--- ---- lists by index
-
-length-listed : (f : ℕ → Tenths) (k i : ℕ) → length (listed f k i) ≡ k
-unfolding listed
-length-listed f zero i = refl
-length-listed f (suc k) i = ap suc (length-listed f k (suc i))
-
-getD-listed : (f : ℕ → Tenths) (k i j : ℕ) → j < k → getD (listed f k i) j nought ≡ f (i + j)
-unfolding listed
-getD-listed f zero i j h = absurd (omega arith)
-getD-listed f (suc k) i zero h = ap f (sym (add-zero i))
-getD-listed f (suc k) i (suc j) h = getD-listed f k (suc i) j (omega arith) ∙ ap f (omega arith)
+use Rattle.measurement.specs.Lists.{takenAt, nought, valueOf, limitOf, outcomeOf, refusalIn, weightOf, marksIn, valueIn, valuesIn, refusedAll, refusedList, allBy, allOf, listBy, listOf}
 
 module _ (readings : List Reading) where
   pub length-values : (n k : ℕ) → length (valuesIn readings n k) ≡ k
   unfolding valuesIn
-  length-values n k = length-listed (valueIn readings n) k 0
+  length-values n k = length-listed nought (valueIn readings n) k 0
 
   -- value j of the first n readings
   pub value-at : (n k j : ℕ) → j < k → getD (valuesIn readings n k) j nought ≡ valueIn readings n j
   unfolding valuesIn
-  value-at n k j h = getD-listed (valueIn readings n) k 0 j h ∙ ap (valueIn readings n) (zero-add j)
+  value-at n k j h = listed-at nought (valueIn readings n) k j h
 
   value-here : (n : ℕ) → valueIn readings (n + 1) n ≡ valueOf (takenAt readings n)
   value-here n = rw (lt-ltb n (n + 1) (omega arith))

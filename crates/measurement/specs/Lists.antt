@@ -6,6 +6,7 @@ use lib.Dec.{ltb, eqb}
 use lib.IntN.{ℤ, pos}
 use lib.Ieee.{nan}
 use lib.ListN.{getD, take, replicate}
+use Rattle.laws.specs.Lists.{listed}
 use Rattle.quantity.specs.declared.quantities.Tenths.{Tenths}
 use Rattle.quantity.specs.declared.quantities.BandSet.{BandSet}
 use Rattle.quantity.specs.declared.quantities.Reading.{Reading}
@@ -59,11 +60,6 @@ weightOf false i = 0
 unfoldable pub marksIn : List Reading → ℕ → ℕ
 marksIn readings zero = 0
 marksIn readings (suc n) = marksIn readings n + weightOf (limitOf (takenAt readings n)) n
-
--- f i, f (i + 1), .., k of them
-unfoldable pub listed : {A : Type 0} → (ℕ → A) → ℕ → ℕ → List A
-listed f zero i = []
-listed f (suc k) i = f i ∷ listed f k (suc i)
 
 -- the values of the first n readings, then zeros: k values in all
 abbrev pub valueIn : List Reading → ℕ → ℕ → Tenths

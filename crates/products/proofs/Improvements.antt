@@ -8,6 +8,7 @@ use borrow.Author.Tests.{eq-eqb, ne-eqb}
 use lib.Dec.{leb, leb→le}
 use lib.IntN.{ℤ, pos, _-ℤ_}
 use lib.ListN.{getD, List·getD-map}
+use Rattle.laws.specs.Lists.{listed}
 use Rattle.laws.proofs.Ints.{minus, eq-made}
 use Rattle.laws.proofs.Table.{at}
 use Rattle.quantity.specs.Quantities.{bandOf}
@@ -15,7 +16,6 @@ use Rattle.quantity.specs.declared.quantities.Tenths.{Tenths}
 use Rattle.quantity.specs.declared.quantities.BandSet.{BandSet}
 use Rattle.quantity.specs.declared.refusals.Refusal.{Refusal}
 use Rattle.quantity.specs.declared.refusals.Refusal.the-variants.{BandCount, BandRange, DerivedRange}
-use Rattle.measurement.specs.Lists.{listed}
 use Rattle.curve.specs.Bands.{accepted, limited}
 use Rattle.curve.proofs.Counted.{Up}
 use Rattle.rating.specs.declared.kinds.Kind.the-variants.{I3}

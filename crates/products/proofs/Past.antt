@@ -7,12 +7,14 @@ use Prim.Native.Nat.{ℕ, _<_}
 use borrow.Author.Tests.{ne-eqb}
 use lib.Dec.{eqb}
 use lib.IntN.{ℤ, _-ℤ_}
+use Rattle.laws.proofs.Lists.{listed-at}
 use Rattle.quantity.specs.Quantities.{bandOf}
 use Rattle.quantity.specs.declared.quantities.Tenths.{Tenths}
 use Rattle.quantity.specs.declared.quantities.BandSet.{BandSet}
 use Rattle.quantity.specs.declared.quantities.Reading.{Reading}
 use Rattle.quantity.specs.declared.refusals.Refusal.the-variants.{BandCount, BandRange}
 use Rattle.measurement.specs.declared.lists.Intake.{Intake}
+use Rattle.measurement.specs.Lists.{nought}
 use Rattle.measurement.proofs.Past.{Alike}
 use Rattle.curve.specs.Bands.{bit}
 use Rattle.rating.specs.declared.kinds.Kind.the-variants.{I3}
@@ -21,7 +23,6 @@ use Rattle.rating.specs.declared.sheets.Rated.the-variants as rated
 use Rattle.rating.specs.Sheets.{ratedOf}
 use Rattle.rating.proofs.Theorems.{accepted-same, limited-same, Stated, past-by, past-length}
 use Rattle.rooms.specs.Background.{tenths}
-use Rattle.means.proofs.Filling.{listed-at}
 use Rattle.means.proofs.Past.{specimens-past}
 use Rattle.products.specs.declared.covers.Cover.the-variants.{Refused}
 use Rattle.products.specs.declared.grades.Side.{Side}
@@ -30,7 +31,7 @@ use Rattle.products.specs.Grades.{graded, gradesOf}
 
 derived-at : (s : BandSet) (i : ℕ) → i < 16 → bandOf (derivedSet s) i ≡ floorAt i -ℤ bandOf s i
 unfolding derivedSet
-derived-at s i h = ap (λ (t : Tenths). t .0) (listed-at (λ j. tenths (floorAt j -ℤ bandOf s j)) 16 i h)
+derived-at s i h = ap (λ (t : Tenths). t .0) (listed-at nought (λ j. tenths (floorAt j -ℤ bandOf s j)) 16 i h)
 
 module _ (s t : BandSet) (len : s .len ≡ t .len) (values : (i : ℕ) → i < 16 → bandOf s i ≡ bandOf t i)
     (marks : (i : ℕ) → i < 16 → bit (s .marks) i ≡ bit (t .marks) i) where

@@ -5,13 +5,13 @@ use Prim.Native.Nat.{ℕ}
 use lib.Dec.{eqb}
 use lib.IntN.{ℤ, pos, negℤ, _+ℤ_, _-ℤ_}
 use lib.ListN.{getD}
+use Rattle.laws.specs.Lists.{listed}
 use Rattle.quantity.specs.Quantities.{bandOf}
 use Rattle.quantity.specs.Refusals.{numberOf}
 use Rattle.quantity.specs.Answers.{Answer, flag}
 use Rattle.quantity.specs.Answers.Answer.{refused, numbers}
 use Rattle.quantity.specs.declared.quantities.BandSet.{BandSet}
 use Rattle.quantity.specs.declared.refusals.Refusal.the-variants.{BandCount, BandRange, DerivedRange}
-use Rattle.measurement.specs.Lists.{listed}
 use Rattle.curve.specs.Bands.{accepted, limited}
 use Rattle.rating.specs.declared.kinds.Kind.the-variants.{I3}
 use Rattle.rating.specs.declared.sheets.Sheet.{Sheet}

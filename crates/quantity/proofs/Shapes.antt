@@ -10,6 +10,7 @@ use borrow.Author.Tests.{le-leb, lt-leb, leb-true, leb-false, eq-eqb, ne-eqb}
 use lib.Dec.{leb, T}
 use lib.ListN.{length, getD, drop, drop-of-length-le}
 use lib.Seq.{drop-cons}
+use Rattle.laws.proofs.Tests.{both}
 use Rattle.quantity.specs.Keys.{keyByte, KeyBytes, KeyOk, allKey, keyShape}
 
 -- the bytes of a key, by the tests of the code in order
@@ -82,10 +83,6 @@ module _ (key : List ℕ) where
   pub shape-by : 1 ≤ length key → length key ≤ 32 → allKey key ≡ keyShape key
   unfolding keyShape
   shape-by h k = simp (le-leb 1 (length key) h, le-leb (length key) 32 k)
-
-both : (a b : Bool) → a && b ≡ true → (a ≡ true) × (b ≡ true)
-both true b e = (refl, e)
-both false b e = absurd (subst T (sym e) tt)
 
 all-bytes : (key : List ℕ) → allKey key ≡ true → KeyBytes key
 unfolding allKey

@@ -1,10 +1,14 @@
--- Document 01, "Request and answer lines": the key of a request, as a list of bytes.
+-- Document 01, "Request and answer lines": a text as a list of bytes, its byte at a position, and the key of a request.
 use mathlib.Core.Bool.{Bool, true, _&&_, _||_}
 use mathlib.Core.List.{List, [], _∷_}
 use mathlib.Core.Path.{_≡_}
 use Prim.Native.Nat.{ℕ, _≤_}
 use lib.Dec.{leb, eqb}
-use lib.ListN.{length}
+use lib.ListN.{length, getD}
+
+-- the byte at a position; 0 past the end
+abbrev pub byteAt : List ℕ → ℕ → ℕ
+byteAt s i = getD s i 0
 
 -- "Key: 1 to 32 of ASCII letters, digits, hyphen."
 abbrev pub between : ℕ → ℕ → ℕ → Bool

@@ -1,6 +1,13 @@
-// The key of a request: its bytes and its shape.
+// Texts: the byte at a position, and the key of a request, its bytes and its shape.
 ghost use mathlib.Core.Path.{_≡_};
-ghost use Rattle.quantity.specs.Keys.{keyByte, keyShape};
+ghost use Rattle.quantity.specs.Keys.{byteAt, keyByte, keyShape};
+
+// The byte at a position; 0 past the end.
+pub fn byte(s: &[u8], at: usize) -> u8
+    ensures { λ r. ⌜ r ≡ byteAt (now (s .entry)) at ⌝ }
+{
+    if at < s.len() { s[at] } else { 0 }
+}
 
 // Whether a byte may stand in a key: an ASCII letter, a digit or a hyphen.
 pub fn is_key(b: u8) -> bool

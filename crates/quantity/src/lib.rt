@@ -1,4 +1,4 @@
-// The quantities of a rating sheet, the refusals, and the key of a request.
+// The quantities of a rating sheet, the refusals, and the bytes and the key of a request.
 //
 // A measured value is a whole number of tenths of a decibel, a single number (a rating, a target, a rounded term) a whole
 // number of decibels: two types, so that neither is passed for the other. Each conversion is a function with a name.
@@ -7,6 +7,7 @@ mod quantities;
 mod refusals;
 pub mod signed;
 
+pub use keys::byte;
 pub use keys::is_key;
 pub use keys::is_key_of;
 pub use quantities::BandSet;

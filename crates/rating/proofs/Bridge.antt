@@ -4,10 +4,9 @@
 use mathlib.Core.Path.{_≡_, sym, _∙_, ap}
 use mathlib.Core.Bool.{Bool, true, false, cond}
 use Prim.Native.Nat.{ℕ, zero, suc, _+_, _*_, _-_, _/_, _%_, _≤_, _<_}
-use native.Mathlib.Nat.{div-add-mod', mod-lt, add-zero, add-suc, suc-add, not-suc-le-zero}
+use native.Mathlib.Nat.{div-add-mod', mod-lt, add-zero, add-suc, suc-add}
 use native.Mathlib.Omega.{arith}
 use lib.IntN.{ℤ, pos, negℤ, _+ℤ_, _-ℤ_, _*ℤ_}
-use lib.ListN.{getD}
 use lib.Signed.{shrZ}
 use Rattle.laws.specs.Parts.{P, N}
 use Rattle.laws.proofs.Ints.{plus, minus, opposite, apart, times-P, times-N, eq-made}
@@ -15,7 +14,7 @@ use Rattle.laws.proofs.Floor.{floor-unique}
 use Rattle.curve.specs.Levels.{bottom}
 use Rattle.curve.proofs.Counted.{PartsOf}
 use Rattle.rating.specs.Curve.{deficitBy, startBy, shiftedBy, firstFrom}
-use Rattle.rating.specs.Numbers.{entryBy, listed}
+use Rattle.rating.specs.Numbers.{entryBy}
 
 -- position p in decibels
 abbrev pub positionBy : Bool → ℕ → ℤ
@@ -44,19 +43,6 @@ deficit-level false K x p entry level e l =
     let a : ℤ = pos 10 *ℤ Y in
     let b : ℤ = pos 10 *ℤ K in
     omega (arith, minus (pos 168) (pos p), times-P 10 Y, times-N 10 Y, times-P 10 K, times-N 10 K, minus x b, minus (x -ℤ b) a, apart (x -ℤ b -ℤ a))
-
--- an entry of a list by index
-listed-at : (f : ℕ → ℕ) (n j i : ℕ) → i < n → getD (listed f n j) i 0 ≡ f (j + i)
-unfolding listed
-listed-at f zero j i h = absurd (not-suc-le-zero h)
-listed-at f (suc n) j zero h = ap f (sym (add-zero j))
-listed-at f (suc n) j (suc i) h = listed-at f n (suc j) i (omega arith) ∙ ap f (suc-add j i ∙ sym (add-suc j i))
-
-pub listed-is : (f : ℕ → ℕ) (n i : ℕ) → i < n → getD (listed f n 0) i 0 ≡ f i
-listed-is f n i h = listed-at f n 0 i h ∙ ap f (none i)
-  where
-    none : (i : ℕ) → 0 + i ≡ i
-    none i = omega arith
 
 -- ---- the start: E is the sum of the entries, add what the kind adds, m ten for each band
 abbrev pub Tuned : Bool → ℕ → ℕ → ℕ → Type 0

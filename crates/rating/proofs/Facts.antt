@@ -8,13 +8,14 @@ use Prim.Native.Nat.{ℕ, _*_, _≤_, _<_}
 use native.Mathlib.Omega.{arith}
 use lib.Dec.{T, leb, leb→le, lit<, lit≤}
 use lib.ListN.{length}
+use Rattle.laws.specs.Lists.{listed}
 use Rattle.laws.specs.Sums.{sumTo}
 use Rattle.laws.proofs.Table.{both, both-left, both-right, every, at as entry-at}
 use Rattle.curve.specs.Levels.{at, bottom, Entries, Count}
 use Rattle.rating.specs.declared.kinds.Kind.{Kind}
 use Rattle.rating.specs.declared.kinds.Kind.the-variants.{A3, A1, I3, I1}
 use Rattle.rating.specs.Kinds.{airborne, bandsOf, limitOf, referenceOf, referencesOf, C, Ctr, spectraC, spectraCtr}
-use Rattle.rating.specs.Numbers.{listed, entriesOf, firstOf, secondOf, numbersOf, startAdd, Sound}
+use Rattle.rating.specs.Numbers.{entriesOf, firstOf, secondOf, numbersOf, startAdd, Sound}
 use Rattle.rating.proofs.Bridge.{Tuned}
 
 fit : Bool → ℕ → ℕ → Bool

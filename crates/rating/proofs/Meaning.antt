@@ -12,6 +12,7 @@ use lib.IntN.{ℤ, pos, negsuc, _+ℤ_, _-ℤ_}
 use Rattle.laws.specs.Parts.{P, N}
 use Rattle.laws.specs.Sums.{sumTo, sumℤ}
 use Rattle.laws.proofs.Ints.{ints, plus, minus, le-made, eq-made}
+use Rattle.laws.proofs.Lists.{listed-at}
 use Rattle.laws.proofs.Sums.{sum-same, sum-plus, sumℤ-parts}
 use Rattle.quantity.specs.Quantities.{bandOf}
 use Rattle.quantity.specs.declared.quantities.BandSet.{BandSet}
@@ -24,7 +25,7 @@ use Rattle.rating.specs.declared.kinds.Kind.the-variants.{A3, A1, I3, I1
 use Rattle.rating.specs.Kinds.{airborne, bandsOf, limitOf, referenceOf}
 use Rattle.rating.specs.Curve.{deficitBy, deficit, total, within, stricterBy, IsPosition, startOf, shiftedBy, shifted, shiftsOf, positionOf, takenOff, ratingOf}
 use Rattle.rating.specs.Numbers.{entryBy, entriesOf, startAdd, ratingAt, ratingBy}
-use Rattle.rating.proofs.Bridge.{positionBy, EntryOf, entry-parts, deficit-level, listed-is, SumOf, start-is, shifted-is, first-is}
+use Rattle.rating.proofs.Bridge.{positionBy, EntryOf, entry-parts, deficit-level, SumOf, start-is, shifted-is, first-is}
 use Rattle.rating.proofs.Facts.{count-of, entries-fit, add-small, tuned-of, limit-below}
 
 -- the sum of levels and the sum of values, from band to band
@@ -79,7 +80,7 @@ module _ (k : Kind) (s : BandSet) (acc : accepted s (bandsOf k) ≡ true) where
 
   entry-is : (i : ℕ) → i < n → at (entriesOf k) i ≡ entryBy (airborne k) (referenceOf k i)
   unfolding entriesOf
-  entry-is i h = listed-is (λ j. entryBy (airborne k) (referenceOf k j)) 16 i (omega (arith, most))
+  entry-is i h = listed-at 0 (λ j. entryBy (airborne k) (referenceOf k j)) 16 i (omega (arith, most))
 
   parts : (i : ℕ) → i < n → PartsOf (airborne k) (bandOf s i) (at (entriesOf k) i) (f i)
   parts i h = level-parts (airborne k) (bandOf s i) (at (entriesOf k) i)

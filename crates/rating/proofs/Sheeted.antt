@@ -8,6 +8,7 @@ use native.Mathlib.Omega.{arith}
 use lib.IntN.{ℤ, pos, _-ℤ_, _*ℤ_}
 use Rattle.laws.specs.Parts.{P, N}
 use Rattle.laws.proofs.Ints.{minus, apart, times-P, times-N}
+use Rattle.laws.proofs.Lists.{listed-at}
 use Rattle.quantity.specs.Quantities.{halfUp, bandOf}
 use Rattle.quantity.specs.declared.quantities.BandSet.{BandSet}
 use Rattle.quantity.specs.declared.quantities.Decibels.{Decibels}
@@ -25,7 +26,6 @@ use Rattle.rating.specs.Curve.{ratingOf, shiftsOf}
 use Rattle.rating.specs.Terms.{airborneTerm}
 use Rattle.rating.specs.Sheets.{decibels, firstBy, secondBy, sheetOf}
 use Rattle.rating.specs.Numbers.{weightBy, firstOf, secondOf, startAdd, numbersOf, Sound, Sought, ratingAt, ratingBy, termOf}
-use Rattle.rating.proofs.Bridge.{listed-is}
 use Rattle.rating.proofs.Facts.{count-of, first-fit, second-fit, sound-of}
 use Rattle.rating.proofs.Meaning.{rating-is, shifts-is, start-below}
 use Rattle.rating.proofs.Weighing.{airborne-term, impact-term}
@@ -70,11 +70,11 @@ module _ (k : Kind) (s : BandSet) (acc : accepted s (bandsOf k) ≡ true) where
 
     first-at : (i : ℕ) → i < 16 → at (firstOf k) i ≡ weightBy (airborne k) (C k i)
     unfolding firstOf
-    first-at i h = listed-is (λ j. weightBy (airborne k) (C k j)) 16 i h
+    first-at i h = listed-at 0 (λ j. weightBy (airborne k) (C k j)) 16 i h
 
     second-at : (i : ℕ) → i < 16 → at (secondOf k) i ≡ weightBy (airborne k) (Ctr k i)
     unfolding secondOf
-    second-at i h = listed-is (λ j. weightBy (airborne k) (Ctr k j)) 16 i h
+    second-at i h = listed-at 0 (λ j. weightBy (airborne k) (Ctr k j)) 16 i h
 
     first-by : (sign : Bool) → airborne k ≡ sign → halfUp (termOf sign (ratingAt k) (levelAt sign s (firstOf k)) n p) ≡ firstBy sign k (bandOf s)
     first-by true e = ap halfUp (airborne-by (C k) (firstOf k) e first-at (first-fit k))

@@ -2,27 +2,27 @@
 -- within the limit over all of ℤ, and the only one; the count of shifts is the distance from the start; what lies past the
 -- stated length never matters. Assumes nothing.
 use mathlib.Core.Path.{_≡_, refl, sym, _∙_, ap, ap₂, subst}
-use mathlib.Core.Bool.{Bool, true, false, cond, _&&_, _||_}
-use mathlib.Core.List.{List, [], _∷_}
-use Prim.Native.Nat.{ℕ, zero, suc, _+_, _*_, _-_, _≤_, _<_}
-use native.Mathlib.Nat.{le-refl, not-suc-le-zero, add-zero, add-suc, suc-add}
+use mathlib.Core.Bool.{Bool, true, false, cond}
+use Prim.Native.Nat.{ℕ, zero, suc, _*_, _-_, _≤_, _<_}
+use native.Mathlib.Nat.{le-refl}
 use native.Mathlib.Decide.{ℕ-discrete}
 use native.Mathlib.Omega.{arith}
 use lib.Dec.{T, eqb, leb}
 use lib.IntN.{ℤ, pos, _+ℤ_, _-ℤ_, _*ℤ_}
-use lib.ListN.{getD}
 use Rattle.laws.specs.Parts.{P}
+use Rattle.laws.specs.Lists.{listed}
 use Rattle.laws.specs.Sums.{sumTo}
 use Rattle.laws.proofs.Ints.{plus, minus, eq-made, le-read}
+use Rattle.laws.proofs.Lists.{listed-at}
 use Rattle.laws.proofs.Sums.{sum-same, sumℤ-same}
 use Rattle.quantity.specs.Quantities.{inRange, halfUp, bandOf}
 use Rattle.quantity.specs.declared.quantities.BandSet.{BandSet}
 use Rattle.quantity.specs.declared.quantities.Tenths.{Tenths}
 use Rattle.quantity.specs.declared.refusals.Refusal.the-variants.{BandCount, BandRange}
 use Rattle.energy.specs.Energies.{F, u}
-use Rattle.curve.specs.Bands.{allTo, anyTo, bit, accepted, limited}
+use Rattle.curve.specs.Bands.{bit, accepted, limited}
 use Rattle.curve.specs.Levels.{levelAt, startAt}
-use Rattle.curve.proofs.Walks.{all-made}
+use Rattle.curve.proofs.Walks.{all-made, all-same, any-same}
 use Rattle.curve.proofs.Searched.{count-most, count-some, found}
 use Rattle.rating.specs.declared.kinds.Kind.{Kind}
 use Rattle.rating.specs.declared.sheets.Rated.the-variants.{Rating, Refused}
@@ -70,16 +70,6 @@ shifts-true k s acc p h =
     ∙ shifts-distance k (bandOf s)
 
 -- ---- what lies past the stated length does not matter
-pub all-same : (f g : ℕ → Bool) (n : ℕ) → ((i : ℕ) → i < n → f i ≡ g i) → allTo f n ≡ allTo g n
-unfolding allTo
-all-same f g zero h = refl
-all-same f g (suc n) h = ap₂ _&&_ (all-same f g n (λ i q. h i (omega arith))) (h n (le-refl (suc n)))
-
-pub any-same : (f g : ℕ → Bool) (n : ℕ) → ((i : ℕ) → i < n → f i ≡ g i) → anyTo f n ≡ anyTo g n
-unfolding anyTo
-any-same f g zero h = refl
-any-same f g (suc n) h = ap₂ _||_ (any-same f g n (λ i q. h i (omega arith))) (h n (le-refl (suc n)))
-
 pub accepted-same : (s t : BandSet) (n : ℕ) → ((i : ℕ) → i < n → bandOf s i ≡ bandOf t i) → accepted s n ≡ accepted t n
 unfolding accepted
 accepted-same s t n values = all-same (λ j. inRange (bandOf s j)) (λ j. inRange (bandOf t j)) n (λ j h. ap inRange (values j h))
@@ -195,24 +185,18 @@ pub past-length : (k : Kind) (s t : BandSet) → Stated s t → ratedOf k s ≡ 
 past-length k = past-by (ratedOf k) (bandsOf k) (Refused BandCount) (λ s f. sym (wrong-count k s (bandsOf k) refl f)) (agreed k)
 
 -- ---- the same for any values in range, whatever holds them
-listed-tenths : (ℕ → ℤ) → ℕ → ℕ → List Tenths
-listed-tenths x zero i = []
-listed-tenths x (suc n) i = record { 0 = x i } ∷ listed-tenths x n (suc i)
-
-held-at : (x : ℕ → ℤ) (n j i : ℕ) → i < n → getD (listed-tenths x n j) i (record { 0 = pos 0 }) .0 ≡ x (j + i)
-unfolding listed-tenths
-held-at x zero j i h = absurd (not-suc-le-zero h)
-held-at x (suc n) j zero h = ap x (sym (add-zero j))
-held-at x (suc n) j (suc i) h = held-at x n (suc j) i (omega arith) ∙ ap x (suc-add j i ∙ sym (add-suc j i))
+abbrev tenths : ℤ → Tenths
+tenths z = record { 0 = z }
 
 as-set : (ℕ → ℤ) → BandSet
-as-set x = record { values = listed-tenths x 16 0; marks = 0; len = 16 }
+as-set x = record { values = listed (λ i. tenths (x i)) 16 0; marks = 0; len = 16 }
 
 pub position-best-of : (k : Kind) (x : ℕ → ℤ) → ((i : ℕ) → i < bandsOf k → inRange (x i) ≡ true) → IsPosition k x (positionOf k x)
 unfolding as-set accepted positionOf
 position-best-of k x h =
     let s : BandSet = as-set x in
-    let same : (i : ℕ) → i < bandsOf k → bandOf s i ≡ x i = λ i q. held-at x 16 0 i (omega (arith, count-most (count-of k))) ∙ ap x (none i) in
+    let same : (i : ℕ) → i < bandsOf k → bandOf s i ≡ x i =
+    λ i q. ap (λ (t : Tenths). t .0) (listed-at (tenths (pos 0)) (λ j. tenths (x j)) 16 i (omega (arith, count-most (count-of k)))) in
     let acc : accepted s (bandsOf k) ≡ true = all-made (λ i. inRange (bandOf s i)) (bandsOf k) (λ i q. ap inRange (same i q) ∙ h i q) in
     let w : IsPosition k (bandOf s) (positionOf k (bandOf s)) = position-best k s acc in
     let e : positionOf k (bandOf s) ≡ positionOf k x = ap₂ (λ (z : ℤ) (m : ℕ). shifted k z m) (start-same k (bandOf s) x same) (shifts-same k (bandOf s) x same) in
@@ -220,6 +204,3 @@ position-best-of k x h =
       holds = subst T (within-same k (bandOf s) x same (positionOf k (bandOf s))) (w .holds);
       best = λ q t. w .best q (subst T (sym (within-same k (bandOf s) x same q)) t);
     })
-  where
-    none : (i : ℕ) → 0 + i ≡ i
-    none i = omega arith

@@ -2,11 +2,12 @@
 -- position, a weighing, the rating and its terms. Nothing here is part of what a caller must believe: `proofs/Bridge.antt`
 -- shows that it says the same as the definitions over ℤ.
 use mathlib.Core.Bool.{Bool, true, false}
-use mathlib.Core.List.{List, [], _∷_}
+use mathlib.Core.List.{List}
 use mathlib.Core.Path.{_≡_}
-use Prim.Native.Nat.{ℕ, zero, suc, _+_, _*_, _<_}
+use Prim.Native.Nat.{ℕ, _+_, _*_, _<_}
 use lib.IntN.{ℤ, pos, _+ℤ_, _-ℤ_, _*ℤ_}
 use Rattle.laws.specs.Parts.{P}
+use Rattle.laws.specs.Lists.{listed}
 use Rattle.quantity.specs.declared.quantities.BandSet.{BandSet}
 use Rattle.energy.specs.Energies.{u}
 use Rattle.curve.specs.Levels.{Entries, at, leastOf, energiesOf, Settled, levelAt, Count, startAt}
@@ -14,11 +15,6 @@ use Rattle.rating.specs.declared.kinds.Kind.{Kind}
 use Rattle.rating.specs.declared.kinds.Kind.the-variants.{A3, A1, I3, I1}
 use Rattle.rating.specs.declared.kinds.Numbers.{Numbers}
 use Rattle.rating.specs.Kinds.{airborne, bandsOf, limitOf, referenceOf, C, Ctr}
-
--- f 0, f 1, .. f (n - 1) as a list
-unfoldable pub listed : (ℕ → ℕ) → ℕ → ℕ → List ℕ
-listed f zero i = []
-listed f (suc n) i = f i ∷ listed f n (suc i)
 
 -- what a band's value is counted from, for the reference curve and for the two spectra
 abbrev pub entryBy : Bool → ℤ → ℕ

@@ -4,24 +4,26 @@ use mathlib.Core.Bool.{Bool, true, false, _&&_}
 use mathlib.Core.List.{List}
 use Prim.Native.Nat.{ℕ, _%_, _^_, _≤_, _<_}
 use native.Mathlib.Omega.{arith}
-use borrow.Author.Tests.{lt-ltb, le-ltb, eq-eqb, ne-eqb}
-use lib.IntN.{ℤ}
+use borrow.Author.Tests.{lt-ltb, le-ltb, le-leb, eqb-true, eq-eqb, ne-eqb}
+use lib.Dec.{eqb}
+use lib.IntN.{ℤ, pos, negsuc}
 use lib.Signed.{leZ, ltZ, mag}
 use lib.ListN.{length, getD}
 use mir.Syntax.{w32}
 use mir.Val.{toZ, ofZ}
-use Rattle.laws.proofs.Ints.{ints}
+use Rattle.laws.proofs.Tests.{sure, refuted, both, both-made, left-fails, right-fails, left-holds}
+use Rattle.laws.proofs.Ints.{ints, le-yes, eq-made}
 use Rattle.laws.specs.Lists.{listed}
 use Rattle.quantity.specs.declared.quantities.Tenths.{Tenths}
 use Rattle.quantity.specs.declared.quantities.BandSet.{BandSet}
 use Rattle.quantity.proofs.Rim.{back}
+use Rattle.curve.proofs.Walks.{all-at, all-made}
 use Rattle.rating.specs.declared.kinds.Kind.{Kind}
 use Rattle.rating.specs.declared.kinds.Kind.the-variants.{A3, A1, I3, I1}
 use Rattle.rating.specs.Kinds.{bandsOf, kindOf, kindNumber}
 use Rattle.rating.proofs.Numbered.{kind-of-number}
 use Rattle.register.specs.declared.entries.Entry.{Entry}
-use Rattle.register.specs.Entries.{marksTo, sameValue, sameValues, sameMarks, bandsBy, bandsIn, sameBands, keptValue, nought, Call, callOf, entryOf}
-use Rattle.register.proofs.Tests.{sure, refuted, left-fails, right-fails, left-holds}
+use Rattle.register.specs.Entries.{valueOf, marksTo, sameValue, sameValues, sameMarks, bandsBy, bandsIn, sameBands, keptValue, nought, Call, callOf, entryOf}
 
 -- ---- values, by the tests of the code in order
 below : (x y : ℤ) → ltZ x y ≡ true → leZ y x ≡ false
@@ -82,6 +84,43 @@ module _ (e f : Entry) where
         ∙ left-holds (sameValues (bandsOf k) e f)
         (eq-eqb (marksTo (bandsOf k) (e .marks)) (marksTo (bandsOf k) (f .marks)) (sym a ∙ d ∙ b))
         ∙ within
+
+-- ---- what it means that two entries have the same bands
+value-one : (x y : ℤ) → sameValue x y ≡ true → x ≡ y
+value-one x y e =
+    let h = both (leZ x y) (leZ y x) e in
+    let a = h .0 in
+    let b = h .1 in
+    eq-made (omega (ints, le-yes x y a, le-yes y x b))
+
+value-refl : (z : ℤ) → sameValue z z ≡ true
+value-refl (pos n) = both-made (le-leb n n (omega arith)) (le-leb n n (omega arith))
+value-refl (negsuc n) = both-made (le-leb n n (omega arith)) (le-leb n n (omega arith))
+
+-- one kind, and the same values and marks of all its bands
+pub record OneBands (e f : Entry) : Type 0 where
+  pub kind : e .kind ≡ f .kind
+  pub values : (i : ℕ) → i < bandsIn e → valueOf e i ≡ valueOf f i
+  pub marks : marksTo (bandsIn e) (e .marks) ≡ marksTo (bandsIn e) (f .marks)
+
+pub bands-one : (e f : Entry) → sameBands e f ≡ true → OneBands e f
+unfolding sameBands sameValues
+bands-one e f h =
+    let a = both (eqb (e .kind) (f .kind)) (sameMarks (bandsIn e) e f && sameValues (bandsIn e) e f) h in
+    let b = both (sameMarks (bandsIn e) e f) (sameValues (bandsIn e) e f) (a .1) in
+    record {
+      kind = eqb-true (e .kind) (f .kind) (a .0);
+      values = λ i p. value-one (valueOf e i) (valueOf f i) (all-at (λ j. sameValue (valueOf e j) (valueOf f j)) (bandsIn e) (b .1) i p);
+      marks = eqb-true (marksTo (bandsIn e) (e .marks)) (marksTo (bandsIn e) (f .marks)) (b .0);
+    }
+
+pub bands-made : (e f : Entry) → OneBands e f → sameBands e f ≡ true
+unfolding sameBands sameValues
+bands-made e f o =
+    both-made (eq-eqb (e .kind) (f .kind) (o .kind))
+    (both-made (eq-eqb (marksTo (bandsIn e) (e .marks)) (marksTo (bandsIn e) (f .marks)) (o .marks))
+    (all-made (λ i. sameValue (valueOf e i) (valueOf f i)) (bandsIn e)
+    (λ i p. ap (sameValue (valueOf e i)) (sym (o .values i p)) ∙ value-refl (valueOf e i))))
 
 -- ---- what is kept of a set
 module _ (s : BandSet) (n i : ℕ) where

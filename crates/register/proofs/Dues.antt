@@ -4,6 +4,8 @@ use mathlib.Core.Path.{_≡_, sym, _∙_, ap}
 use mathlib.Core.Bool.{true, false, _&&_}
 use Prim.Native.Nat.{ℕ, _≤_, _<_}
 use borrow.Author.Tests.{lt-ltb, le-ltb}
+use lib.Dec.{ltb}
+use Rattle.laws.proofs.Tests.{never, refuted, both, both-made}
 use Rattle.quantity.specs.Keys.{keyShape}
 use Rattle.quantity.specs.Quantities.{priced}
 use Rattle.quantity.specs.declared.refusals.Refusal.{Refusal}
@@ -18,18 +20,46 @@ use Rattle.register.specs.declared.steps.Step.{Step}
 use Rattle.register.specs.Entries.{sameKey, sameBands, Call, entryOf}
 use Rattle.register.specs.Registers.{entryAt, sound, known, held, Due, placeDue, dueOf, billedBy, billedOf, afterBy, afterOf}
 use Rattle.register.specs.Registers.Due.{refuse, repeat, enter}
-use Rattle.register.proofs.Tests.{never, refuted, both, both-made, any-none, any-found}
+use Rattle.register.proofs.Tests.{any-none, any-found, any-mono}
 use Rattle.register.proofs.Texts.{key-sym, key-trans}
 use Rattle.register.proofs.Places.{Missed}
 use Rattle.register.proofs.Soundness.{sole}
+
+-- ---- by what is there
+module _ (r : Register) (e : Entry) (sheet : Sheet) where
+  pub place-held : held r e ≡ true → placeDue r e sheet ≡ repeat sheet
+  unfolding placeDue
+  place-held h = rw h
+
+  pub place-known : held r e ≡ false → known r e ≡ true → placeDue r e sheet ≡ refuse OtherBands
+  unfolding placeDue
+  place-known h k = rw (h, k)
+
+  pub place-free : held r e ≡ false → known r e ≡ false → ltb (r .count) 512 ≡ true → placeDue r e sheet ≡ enter sheet
+  unfolding placeDue
+  place-free h k l = rw (h, k, l)
+
+  pub place-full : held r e ≡ false → known r e ≡ false → ltb (r .count) 512 ≡ false → placeDue r e sheet ≡ refuse RegisterFull
+  unfolding placeDue
+  place-full h k l = rw (h, k, l)
+
+-- what is held is known
+pub held-known : (r : Register) (e : Entry) → held r e ≡ true → known r e ≡ true
+unfolding held known
+held-known r e =
+    any-mono (λ i. sameKey (entryAt r i) e && sameBands (entryAt r i) e) (λ i. sameKey (entryAt r i) e) (r .count)
+    (λ i h. both (sameKey (entryAt r i) e) (sameBands (entryAt r i) e) h .0)
+
+pub unknown-held : (r : Register) (e : Entry) → known r e ≡ false → held r e ≡ false
+unknown-held r e k = refuted (held r e) (λ h. never (held-known r e h) k)
 
 -- ---- by the place of its key
 module _ (r : Register) (e : Entry) (sheet : Sheet) where
   -- the key is there
   module _ (i : ℕ) (p : i < r .count) (s : sameKey (entryAt r i) e ≡ true) where
     pub due-same : sameBands (entryAt r i) e ≡ true → placeDue r e sheet ≡ repeat sheet
-    unfolding placeDue held
-    due-same b = rw (any-found (λ j. sameKey (entryAt r j) e && sameBands (entryAt r j) e) (r .count) i p (both-made s b))
+    unfolding held
+    due-same b = place-held r e sheet (any-found (λ j. sameKey (entryAt r j) e && sameBands (entryAt r j) e) (r .count) i p (both-made s b))
 
     not-held : sound r ≡ true → sameBands (entryAt r i) e ≡ false → held r e ≡ false
     unfolding held
@@ -43,25 +73,20 @@ module _ (r : Register) (e : Entry) (sheet : Sheet) where
             never (t .1) (ap (λ (k : ℕ). sameBands (entryAt r k) e) (sym w) ∙ b)
 
     pub due-other : sound r ≡ true → sameBands (entryAt r i) e ≡ false → placeDue r e sheet ≡ refuse OtherBands
-    unfolding placeDue known
-    due-other h b = rw (not-held h b, any-found (λ j. sameKey (entryAt r j) e) (r .count) i p s)
+    unfolding known
+    due-other h b = place-known r e sheet (not-held h b) (any-found (λ j. sameKey (entryAt r j) e) (r .count) i p s)
 
   -- it is not
   module _ (m : Missed r e (r .count)) where
-    none-held : held r e ≡ false
-    unfolding held
-    none-held =
-        any-none (λ j. sameKey (entryAt r j) e && sameBands (entryAt r j) e) (r .count)
-        (λ j q. refuted (sameKey (entryAt r j) e && sameBands (entryAt r j) e) (λ t.
-        never (any-found (λ k. sameKey (entryAt r k) e) (r .count) j q (both (sameKey (entryAt r j) e) (sameBands (entryAt r j) e) t .0)) m))
+    absent : known r e ≡ false
+    unfolding known
+    absent = m
 
     pub due-new : r .count < 512 → placeDue r e sheet ≡ enter sheet
-    unfolding placeDue known
-    due-new h = rw (none-held, m, lt-ltb (r .count) 512 h)
+    due-new h = place-free r e sheet (unknown-held r e absent) absent (lt-ltb (r .count) 512 h)
 
     pub due-full : 512 ≤ r .count → placeDue r e sheet ≡ refuse RegisterFull
-    unfolding placeDue known
-    due-full h = rw (none-held, m, le-ltb (r .count) 512 h)
+    due-full h = place-full r e sheet (unknown-held r e absent) absent (le-ltb (r .count) 512 h)
 
 -- ---- by each test
 module _ (r : Register) (x : Call) where

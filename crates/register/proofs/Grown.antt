@@ -16,6 +16,7 @@ use Rattle.laws.specs.Lists.{listed}
 use Rattle.laws.specs.Sums.{sumTo}
 use Rattle.laws.proofs.Lists.{length-listed, getD-listed}
 use Rattle.laws.proofs.Sums.{sum-same, sum-more}
+use Rattle.laws.proofs.Tests.{both, both-made}
 use Rattle.quantity.specs.Keys.{keyShape}
 use Rattle.quantity.specs.Quantities.{bandOf, priced}
 use Rattle.quantity.specs.declared.quantities.BandSet.{BandSet}
@@ -24,7 +25,7 @@ use Rattle.quantity.specs.declared.refusals.Refusal.the-variants.{BandCount, Ba
 use Rattle.quantity.proofs.Shapes.{key-shape}
 use Rattle.curve.specs.Bands.{allTo, anyTo, accepted}
 use Rattle.curve.specs.Levels.{Count}
-use Rattle.curve.proofs.Walks.{all-more}
+use Rattle.curve.proofs.Walks.{all-more, all-same, any-same}
 use Rattle.curve.proofs.Searched.{count-most}
 use Rattle.rating.specs.declared.kinds.Kind.{Kind}
 use Rattle.rating.specs.declared.kinds.Named.{Named}
@@ -36,7 +37,7 @@ use Rattle.rating.specs.Kinds.{bandsOf, kindOf, kindNumber}
 use Rattle.rating.specs.Sheets.{asked, sheetOf, ratedOf}
 use Rattle.rating.proofs.Facts.{count-of}
 use Rattle.rating.proofs.Numbered.{kind-of-number}
-use Rattle.rating.proofs.Theorems.{all-same, any-same, past-length}
+use Rattle.rating.proofs.Theorems.{past-length}
 use Rattle.register.specs.declared.entries.Entry.{Entry}
 use Rattle.register.specs.declared.entries.Register.{Register}
 use Rattle.register.specs.Entries.{keyOf, valueOf, setOf, sameText, sameKey, sameBands, isSheet, ratable, keyed, entryOk, Call, nought, keptValue, entryOf}
@@ -45,9 +46,9 @@ use Rattle.register.specs.Registers.Due.{refuse, repeat, enter}
 use Rattle.register.specs.Histories.{Calls, left, sameCaller}
 use Rattle.register.specs.Histories.Calls.{start, next}
 use Rattle.register.proofs.Sameness.{bit-mod}
+use Rattle.register.proofs.Soundness.{all-ok, all-apart}
 use Rattle.register.proofs.Seen.{Taken, Seen, seen}
 use Rattle.register.proofs.Seen.Seen.{turned, retried, added}
-use Rattle.register.proofs.Tests.{never, refuted, both, both-made}
 
 -- ---- the entry of a call
 
@@ -154,11 +155,6 @@ pub opened-grown : Grown opened
 unfolding opened sound allTo
 opened-grown = record { whole = refl; places = length-replicate 512 noEntry }
 
-sound-parts : (r : Register) → sound r ≡ true
-    → (allTo (λ i. entryOk (entryAt r i)) (r .count) ≡ true) × (allTo (λ i. not (repeated r i)) (r .count) ≡ true)
-unfolding sound
-sound-parts r s = both _ _ (both (leb (r .count) 512) _ s .1)
-
 pub with-grown : (r : Register) (e : Entry) → Grown r → entryOk e ≡ true → known r e ≡ false → r .count < 512 → Grown (withEntry r e)
 unfolding sound withEntry known
 with-grown r e g ok new room = record { whole = sounds; places = length-set (r .entries) (r .count) e ∙ g .places }
@@ -172,7 +168,7 @@ with-grown r e g ok new room = record { whole = sounds; places = length-set (r .
     oks : allTo (λ i. entryOk (entryAt s i)) (r .count + 1) ≡ true
     oks =
         all-more (λ i. entryOk (entryAt s i)) (r .count)
-        (all-same (λ i. entryOk (entryAt s i)) (λ i. entryOk (entryAt r i)) (r .count) (λ i h. ap entryOk (entry-old r e i h)) ∙ sound-parts r (g .whole) .0)
+        (all-same (λ i. entryOk (entryAt s i)) (λ i. entryOk (entryAt r i)) (r .count) (λ i h. ap entryOk (entry-old r e i h)) ∙ all-ok r (g .whole))
         (ap entryOk (entry-new r e fits) ∙ ok)
 
     old : (i : ℕ) → i < r .count → repeated s i ≡ repeated r i
@@ -189,7 +185,7 @@ with-grown r e g ok new room = record { whole = sounds; places = length-set (r .
     apart : allTo (λ i. not (repeated s i)) (r .count + 1) ≡ true
     apart =
         all-more (λ i. not (repeated s i)) (r .count)
-        (all-same (λ i. not (repeated s i)) (λ i. not (repeated r i)) (r .count) (λ i h. ap not (old i h)) ∙ sound-parts r (g .whole) .1)
+        (all-same (λ i. not (repeated s i)) (λ i. not (repeated r i)) (r .count) (λ i h. ap not (old i h)) ∙ all-apart r (g .whole))
         (ap not last)
 
     sounds : sound s ≡ true

@@ -9,6 +9,7 @@ use native.Mathlib.Decide.{ℕ-discrete, decLt}
 use native.Mathlib.Omega.{arith}
 use lib.ListN.{length, getD, set, length-set}
 use lib.Seq.{getD-set-same, getD-set-other}
+use Rattle.laws.proofs.Tests.{refuted}
 use Rattle.curve.specs.Bands.{allTo, anyTo}
 use Rattle.curve.proofs.Walks.{all-none, all-more, all-fails}
 use Rattle.register.specs.declared.entries.Entry.{Entry}
@@ -16,7 +17,7 @@ use Rattle.register.specs.declared.entries.Register.{Register}
 use Rattle.register.specs.Entries.{sameKey}
 use Rattle.register.specs.Registers.{entryAt, repeated}
 use Rattle.register.specs.Words.{wordTo, wordOf, PlaceOf}
-use Rattle.register.proofs.Tests.{refuted, any-none, any-found, any-more}
+use Rattle.register.proofs.Tests.{any-none, any-found, any-more}
 use Rattle.register.proofs.Texts.{key-same}
 
 -- ---- a word, byte after byte

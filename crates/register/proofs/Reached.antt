@@ -14,10 +14,11 @@ use lib.Dec.{eqb, leb, ltb}
 use lib.ListN.{length, getD, take}
 use lib.Seq.{length-take-le}
 use Rattle.laws.specs.Lists.{listed}
+use Rattle.laws.proofs.Tests.{never, refuted, both}
 use Rattle.quantity.specs.Keys.{keyShape}
 use Rattle.quantity.specs.Quantities.{priced}
 use Rattle.curve.specs.Bands.{allTo, anyTo}
-use Rattle.curve.proofs.Walks.{all-at}
+use Rattle.curve.proofs.Walks.{all-at, any-same}
 use Rattle.rating.specs.declared.kinds.Kind.{Kind}
 use Rattle.rating.specs.declared.kinds.Kind.the-variants.{A3}
 use Rattle.rating.specs.declared.kinds.Named.{Named}
@@ -28,7 +29,6 @@ use Rattle.rating.specs.declared.sheets.Rated.the-variants.{Rating, Refused}
 use Rattle.rating.specs.Kinds.{bandsOf, kindOf, kindNumber}
 use Rattle.rating.specs.Sheets.{ratedOf}
 use Rattle.rating.proofs.Numbered.{kind-of-number, kind-number-of}
-use Rattle.rating.proofs.Theorems.{any-same}
 use Rattle.register.specs.declared.entries.Entry.{Entry}
 use Rattle.register.specs.declared.entries.Register.{Register}
 use Rattle.register.specs.Entries.{keyOf, valueOf, setOf, bandsBy, bandsIn, marksTo, sameKey, isSheet, ratable, keyed, entryOk, Call, callOf, keptValue, entryOf}
@@ -37,11 +37,12 @@ use Rattle.register.specs.Registers.Due.{refuse, repeat, enter}
 use Rattle.register.specs.Histories.{Calls, left, SameEntry, SameRegister, CouldBeLeft, Full}
 use Rattle.register.specs.Histories.Calls.{start, next}
 use Rattle.register.proofs.Grown.{Grown, left-grown, key-kept, value-kept, entry-old, entry-new}
-use Rattle.register.proofs.Histories.{after-is, held-known}
+use Rattle.register.proofs.Dues.{place-free, unknown-held}
+use Rattle.register.proofs.Histories.{after-is}
+use Rattle.register.proofs.Soundness.{all-ok, sound-fresh, sound-most}
 use Rattle.register.proofs.Sameness.{same-entry, key-alike, sound-same, due-same}
-use Rattle.register.proofs.Seen.{Taken, Seen, seen, due-placed, place-free}
+use Rattle.register.proofs.Seen.{Taken, Seen, seen, placed}
 use Rattle.register.proofs.Seen.Seen.{turned, retried, added}
-use Rattle.register.proofs.Tests.{never, refuted, both}
 
 -- ---- registers that differ only in what never matters stay so
 
@@ -175,17 +176,8 @@ record Entered (r : Register) (n : ℕ) (s : Register) : Type 0 where
   entries : (i : ℕ) → i < n → SameEntry (entryAt s i) (entryAt r i)
 
 module _ (r : Register) (whole : sound r ≡ true) (full : Full r) where
-  parts : (leb (r .count) 512 ≡ true) × ((allTo (λ i. entryOk (entryAt r i)) (r .count) ≡ true) × (allTo (λ i. not (repeated r i)) (r .count) ≡ true))
-  unfolding sound
-  parts =
-      let a = both (leb (r .count) 512) (allTo (λ i. entryOk (entryAt r i)) (r .count) && allTo (λ i. not (repeated r i)) (r .count)) whole in
-      (a .0, both (allTo (λ i. entryOk (entryAt r i)) (r .count)) (allTo (λ i. not (repeated r i)) (r .count)) (a .1))
-
   pass : (n : ℕ) → n < r .count → Passed (entryAt r n)
-  pass n h = passed (entryAt r n) (all-at (λ i. entryOk (entryAt r i)) (r .count) (parts .1 .0) n h)
-
-  first : (n : ℕ) → n < r .count → repeated r n ≡ false
-  first n h = not-true (repeated r n) (all-at (λ i. not (repeated r i)) (r .count) (parts .1 .1) n h)
+  pass n h = passed (entryAt r n) (all-at (λ i. entryOk (entryAt r i)) (r .count) (all-ok r whole) n h)
 
   step : (n : ℕ) → n < r .count → Entered r n (left (calls-of r n)) → Entered r (suc n) (left (calls-of r (suc n)))
   unfolding left calls-of known withEntry
@@ -207,18 +199,18 @@ module _ (r : Register) (whole : sound r ≡ true) (full : Full r) where
       new =
           ap (anyTo (λ i. sameKey (entryAt s i) (entryOf x))) (b .count)
           ∙ any-same (λ i. sameKey (entryAt s i) (entryOf x)) (λ i. sameKey (entryAt r i) (entryAt r n)) n (λ i q. key-alike (b .entries i q) same)
-          ∙ first n h
+          ∙ sound-fresh r whole n h
 
       taken : Taken s x (p .sheet)
       taken = record { whole = left-grown (calls-of r n) .whole; shape = p .shape; rated = p .rated; price = p .price }
 
       room : s .count < 512
-      room = omega (arith, b .count, leb-true (r .count) 512 (parts .0))
+      room = omega (arith, b .count, sound-most r whole)
 
       due : dueOf s x ≡ enter (p .sheet)
       due =
-          due-placed s x (p .sheet) taken
-          ∙ place-free s (entryOf x) (p .sheet) (refuted (held s (entryOf x)) (λ k. never (held-known s (entryOf x) k) new)) new (lt-ltb (s .count) 512 room)
+          placed s x (p .sheet) taken
+          ∙ place-free s (entryOf x) (p .sheet) (unknown-held s (entryOf x) new) new (lt-ltb (s .count) 512 room)
 
       fits : s .count < length (s .entries)
       fits = omega (arith, left-grown (calls-of r n) .places, room)

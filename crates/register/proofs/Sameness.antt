@@ -16,6 +16,7 @@ use Rattle.quantity.specs.Keys.{keyShape}
 use Rattle.quantity.specs.Quantities.{priced}
 use Rattle.quantity.specs.declared.refusals.Refusal.the-variants.{NotRequest, PriceRange, OtherBands, RegisterFull, RegisterDamaged}
 use Rattle.curve.specs.Bands.{allTo, anyTo, bit}
+use Rattle.curve.proofs.Walks.{all-same, any-same}
 use Rattle.rating.specs.declared.kinds.Kind.{Kind}
 use Rattle.rating.specs.declared.kinds.Named.{Named}
 use Rattle.rating.specs.declared.kinds.Named.the-variants.{Is, Unknown}
@@ -24,7 +25,7 @@ use Rattle.rating.specs.declared.sheets.Rated.{Rated}
 use Rattle.rating.specs.declared.sheets.Rated.the-variants as rating
 use Rattle.rating.specs.Kinds.{bandsOf, kindOf}
 use Rattle.rating.specs.Sheets.{ratedOf}
-use Rattle.rating.proofs.Theorems.{all-same, any-same, past-length}
+use Rattle.rating.proofs.Theorems.{past-length}
 use Rattle.register.specs.declared.entries.Entry.{Entry}
 use Rattle.register.specs.declared.entries.Register.{Register}
 use Rattle.register.specs.declared.totals.Owed.the-variants as owed

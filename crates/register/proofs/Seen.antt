@@ -1,8 +1,8 @@
 -- What a call comes to, by the tests in their order: refused, the same again, or entered, each with the facts that led there.
 -- Assumes nothing.
-use mathlib.Core.Path.{_≡_, refl, sym, _∙_, ap}
-use mathlib.Core.Bool.{Bool, true, false, cond}
-use Prim.Native.Nat.{ℕ, _<_, _≤_}
+use mathlib.Core.Path.{_≡_, refl, _∙_}
+use mathlib.Core.Bool.{Bool, true, false}
+use Prim.Native.Nat.{_<_}
 use borrow.Author.Tests.{ltb-true}
 use lib.Dec.{ltb}
 use Rattle.quantity.specs.Keys.{keyShape}
@@ -13,11 +13,11 @@ use Rattle.rating.specs.declared.sheets.Sheet.{Sheet}
 use Rattle.rating.specs.declared.sheets.Rated.{Rated}
 use Rattle.rating.specs.declared.sheets.Rated.the-variants.{Rating, Refused}
 use Rattle.rating.specs.Sheets.{ratedOf}
-use Rattle.register.specs.declared.entries.Entry.{Entry}
 use Rattle.register.specs.declared.entries.Register.{Register}
 use Rattle.register.specs.Entries.{Call, entryOf}
-use Rattle.register.specs.Registers.{sound, known, held, placeDue, ratedDue, dueOf, Due}
+use Rattle.register.specs.Registers.{sound, known, held, placeDue, dueOf}
 use Rattle.register.specs.Registers.Due.{refuse, repeat, enter}
+use Rattle.register.proofs.Dues.{place-held, place-known, place-free, place-full, due-damaged, due-shape, due-refused, due-price, due-placed}
 
 -- what is known of a call that is rated and charged
 pub record Taken (r : Register) (x : Call) (sheet : Sheet) : Type 0 where
@@ -26,43 +26,8 @@ pub record Taken (r : Register) (x : Call) (sheet : Sheet) : Type 0 where
   pub rated : ratedOf (x .kind) (x .set) ≡ Rating sheet
   pub price : priced (x .price) ≡ true
 
-module _ (r : Register) (e : Entry) (sheet : Sheet) where
-  pub place-held : held r e ≡ true → placeDue r e sheet ≡ repeat sheet
-  unfolding placeDue
-  place-held h = rw h
-
-  pub place-known : held r e ≡ false → known r e ≡ true → placeDue r e sheet ≡ refuse OtherBands
-  unfolding placeDue
-  place-known h k = rw (h, k)
-
-  pub place-free : held r e ≡ false → known r e ≡ false → ltb (r .count) 512 ≡ true → placeDue r e sheet ≡ enter sheet
-  unfolding placeDue
-  place-free h k l = rw (h, k, l)
-
-  pub place-full : held r e ≡ false → known r e ≡ false → ltb (r .count) 512 ≡ false → placeDue r e sheet ≡ refuse RegisterFull
-  unfolding placeDue
-  place-full h k l = rw (h, k, l)
-
-module _ (r : Register) (x : Call) where
-  pub due-damaged : sound r ≡ false → dueOf r x ≡ refuse RegisterDamaged
-  unfolding dueOf
-  due-damaged s = rw s
-
-  pub due-misshapen : sound r ≡ true → keyShape (x .key) ≡ false → dueOf r x ≡ refuse NotRequest
-  unfolding dueOf
-  due-misshapen s k = rw (s, k)
-
-  pub due-rated : (d : Rated) → sound r ≡ true → keyShape (x .key) ≡ true → ratedOf (x .kind) (x .set) ≡ d → dueOf r x ≡ ratedDue d r x
-  unfolding dueOf
-  due-rated d s k e = rw (s, k, e)
-
-  pub due-dear : (sheet : Sheet) → priced (x .price) ≡ false → ratedDue (Rating sheet) r x ≡ refuse PriceRange
-  due-dear sheet p = rw p
-
-  pub due-placed : (sheet : Sheet) → Taken r x sheet → dueOf r x ≡ placeDue r (entryOf x) sheet
-  due-placed sheet t =
-      due-rated (Rating sheet) (t .whole) (t .shape) (t .rated)
-      ∙ ap (λ (b : Bool). cond b (placeDue r (entryOf x) sheet) (refuse PriceRange)) (t .price)
+pub placed : (r : Register) (x : Call) (sheet : Sheet) → Taken r x sheet → dueOf r x ≡ placeDue r (entryOf x) sheet
+placed r x sheet t = due-placed r x (t .whole) (t .shape) sheet (t .rated) (t .price)
 
 -- the three ways, with what is known on each
 pub data Seen (r : Register) (x : Call) : Type 0 where
@@ -75,30 +40,30 @@ seen r x = by-sound (sound r) refl
   where
     by-room : (sheet : Sheet) → Taken r x sheet → held r (entryOf x) ≡ false → known r (entryOf x) ≡ false → (b : Bool) → ltb (r .count) 512 ≡ b
         → Seen r x
-    by-room sheet t h k true l = added sheet t k (ltb-true (r .count) 512 l) (due-placed r x sheet t ∙ place-free r (entryOf x) sheet h k l)
-    by-room sheet t h k false l = turned RegisterFull (due-placed r x sheet t ∙ place-full r (entryOf x) sheet h k l)
+    by-room sheet t h k true l = added sheet t k (ltb-true (r .count) 512 l) (placed r x sheet t ∙ place-free r (entryOf x) sheet h k l)
+    by-room sheet t h k false l = turned RegisterFull (placed r x sheet t ∙ place-full r (entryOf x) sheet h k l)
 
     by-known : (sheet : Sheet) → Taken r x sheet → held r (entryOf x) ≡ false → (b : Bool) → known r (entryOf x) ≡ b → Seen r x
-    by-known sheet t h true k = turned OtherBands (due-placed r x sheet t ∙ place-known r (entryOf x) sheet h k)
+    by-known sheet t h true k = turned OtherBands (placed r x sheet t ∙ place-known r (entryOf x) sheet h k)
     by-known sheet t h false k = by-room sheet t h k (ltb (r .count) 512) refl
 
     by-held : (sheet : Sheet) → Taken r x sheet → (b : Bool) → held r (entryOf x) ≡ b → Seen r x
-    by-held sheet t true h = retried sheet t h (due-placed r x sheet t ∙ place-held r (entryOf x) sheet h)
+    by-held sheet t true h = retried sheet t h (placed r x sheet t ∙ place-held r (entryOf x) sheet h)
     by-held sheet t false h = by-known sheet t h (known r (entryOf x)) refl
 
     by-price : (sheet : Sheet) → sound r ≡ true → keyShape (x .key) ≡ true → ratedOf (x .kind) (x .set) ≡ Rating sheet → (b : Bool)
         → priced (x .price) ≡ b → Seen r x
     by-price sheet s k e true p =
         by-held sheet (record { whole = s; shape = k; rated = e; price = p }) (held r (entryOf x)) refl
-    by-price sheet s k e false p = turned PriceRange (due-rated r x (Rating sheet) s k e ∙ due-dear r x sheet p)
+    by-price sheet s k e false p = turned PriceRange (due-price r x s k sheet e p)
 
     by-rated : sound r ≡ true → keyShape (x .key) ≡ true → (d : Rated) → ratedOf (x .kind) (x .set) ≡ d → Seen r x
     by-rated s k (Rating sheet) e = by-price sheet s k e (priced (x .price)) refl
-    by-rated s k (Refused refusal) e = turned refusal (due-rated r x (Refused refusal) s k e)
+    by-rated s k (Refused refusal) e = turned refusal (due-refused r x s k refusal e)
 
     by-shape : sound r ≡ true → (b : Bool) → keyShape (x .key) ≡ b → Seen r x
     by-shape s true k = by-rated s k (ratedOf (x .kind) (x .set)) refl
-    by-shape s false k = turned NotRequest (due-misshapen r x s k)
+    by-shape s false k = turned NotRequest (due-shape r x s k)
 
     by-sound : (b : Bool) → sound r ≡ b → Seen r x
     by-sound true s = by-shape s (keyShape (x .key)) refl

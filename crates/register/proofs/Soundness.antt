@@ -8,6 +8,7 @@ use native.Mathlib.Decide.{decLt}
 use native.Mathlib.Omega.{arith}
 use borrow.Author.Tests.{leb-true, le-leb, lt-leb, eq-eqb, ne-eqb, not-true}
 use lib.Dec.{eqb, leb}
+use Rattle.laws.proofs.Tests.{never, left-fails, right-fails, left-holds, both}
 use Rattle.laws.specs.Sums.{sumTo}
 use Rattle.laws.proofs.Sums.{sum-more}
 use Rattle.quantity.specs.Keys.{keyShape}
@@ -31,7 +32,7 @@ use Rattle.register.specs.declared.totals.Owed.the-variants as owed
 use Rattle.register.specs.Entries.{keyOf, setOf, sameKey, isSheet, ratable, keyed, entryOk}
 use Rattle.register.specs.Registers.{entryAt, repeated, sound, priceFor, totalIn, owedOf}
 use Rattle.register.specs.Words.{Short, WordsOf, LookedAt}
-use Rattle.register.proofs.Tests.{never, left-fails, right-fails, left-holds, both, any-found}
+use Rattle.register.proofs.Tests.{any-found}
 use Rattle.register.proofs.Texts.{key-sym}
 
 -- ---- an entry
@@ -117,8 +118,11 @@ module _ (r : Register) (h : sound r ≡ true) where
   pub sound-most : r .count ≤ 512
   sound-most = leb-true (r .count) 512 (parts .0)
 
-  all-ok : allTo (λ i. entryOk (entryAt r i)) (r .count) ≡ true
+  pub all-ok : allTo (λ i. entryOk (entryAt r i)) (r .count) ≡ true
   all-ok = both (allTo (λ i. entryOk (entryAt r i)) (r .count)) (allTo (λ i. not (repeated r i)) (r .count)) (parts .1) .0
+
+  pub all-apart : allTo (λ i. not (repeated r i)) (r .count) ≡ true
+  all-apart = both (allTo (λ i. entryOk (entryAt r i)) (r .count)) (allTo (λ i. not (repeated r i)) (r .count)) (parts .1) .1
 
   pub sound-short : Short r (r .count)
   sound-short = shorts r (r .count) all-ok
@@ -129,8 +133,7 @@ module _ (r : Register) (h : sound r ≡ true) where
   pub sound-fresh : (i : ℕ) → i < r .count → repeated r i ≡ false
   sound-fresh i p =
       not-true (repeated r i)
-      (all-at (λ j. not (repeated r j)) (r .count)
-      (both (allTo (λ j. entryOk (entryAt r j)) (r .count)) (allTo (λ j. not (repeated r j)) (r .count)) (parts .1) .1) i p)
+      (all-at (λ j. not (repeated r j)) (r .count) all-apart i p)
 
   before : (i j : ℕ) → i < j → j < r .count → sameKey (entryAt r i) (entryAt r j) ≡ true → ⊥
   before i j p q s = never (any-found (λ k. sameKey (entryAt r k) (entryAt r j)) j i p s) (sound-fresh j q)

@@ -1,48 +1,14 @@
--- Tests that are booleans: of both, of all and of some below a number. Assumes nothing.
-use mathlib.Core.Path.{_≡_, refl, sym, _∙_, ap, ap₂, subst}
-use mathlib.Core.Bool.{Bool, true, false, _&&_, _||_, and-false, or-true}
+-- Tests of some number below n: that none passes, that one does. Assumes nothing.
+use mathlib.Core.Path.{_≡_, refl, sym, _∙_, ap, ap₂}
+use mathlib.Core.Bool.{Bool, true, false, _||_, or-true}
 use Prim.Native.Nat.{ℕ, zero, suc, _+_, _<_}
 use native.Mathlib.Nat.{le-refl}
 use native.Mathlib.Numerals.{add-one}
 use native.Mathlib.Decide.{decLt}
 use native.Mathlib.Omega.{arith}
-use lib.Dec.{T}
+use Rattle.laws.proofs.Tests.{never, refuted}
 use Rattle.curve.specs.Bands.{anyTo}
 
-pub never : {b : Bool} → b ≡ true → b ≡ false → ⊥
-never e f = subst T (sym e ∙ f) tt
-
--- a test that does not hold
-pub refuted : (b : Bool) → (b ≡ true → ⊥) → b ≡ false
-refuted true f = absurd (f refl)
-refuted false f = refl
-
-pub sure : (b : Bool) → (b ≡ false → ⊥) → b ≡ true
-sure true f = refl
-sure false f = absurd (f refl)
-
--- two tests that hold together
-pub one-test : (a b : Bool) → (a ≡ true → b ≡ true) → (b ≡ true → a ≡ true) → a ≡ b
-one-test true b f g = sym (f refl)
-one-test false b f g = sym (refuted b (λ e. never (g e) refl))
-
-pub both : (a b : Bool) → a && b ≡ true → (a ≡ true) × (b ≡ true)
-both true b e = (refl, e)
-both false b e = absurd (never e refl)
-
-pub left-fails : {a : Bool} (b : Bool) → a ≡ false → false ≡ a && b
-left-fails b e = sym (ap (λ (a : Bool). a && b) e)
-
-pub right-fails : (a : Bool) {b : Bool} → b ≡ false → false ≡ a && b
-right-fails a e = sym (ap (λ (b : Bool). a && b) e ∙ and-false a)
-
-pub left-holds : {a : Bool} (b : Bool) → a ≡ true → b ≡ a && b
-left-holds b e = sym (ap (λ (a : Bool). a && b) e)
-
-pub both-made : {a b : Bool} → a ≡ true → b ≡ true → a && b ≡ true
-both-made e f = ap₂ _&&_ e f
-
--- ---- some below n passes
 pub any-none : (ok : ℕ → Bool) (n : ℕ) → ((i : ℕ) → i < n → ok i ≡ false) → anyTo ok n ≡ false
 unfolding anyTo
 any-none ok zero h = refl
@@ -65,3 +31,12 @@ any-found ok (suc n) i h e = go (λ p. any-found ok n i p e) (decLt i n)
 
 pub any-fails : (ok : ℕ → Bool) (n : ℕ) → anyTo ok n ≡ false → (i : ℕ) → i < n → ok i ≡ false
 any-fails ok n e i h = refuted (ok i) (λ f. never (any-found ok n i h f) e)
+
+pub any-mono : (f g : ℕ → Bool) (n : ℕ) → ((i : ℕ) → f i ≡ true → g i ≡ true) → anyTo f n ≡ true → anyTo g n ≡ true
+unfolding anyTo
+any-mono f g zero m e = e
+any-mono f g (suc n) m e = go (any-mono f g n m) (anyTo f n) refl
+  where
+    go : (anyTo f n ≡ true → anyTo g n ≡ true) → (b : Bool) → anyTo f n ≡ b → anyTo g n || g n ≡ true
+    go before true q = ap (λ (b : Bool). b || g n) (before q)
+    go before false q = ap (λ (b : Bool). anyTo g n || b) (m n (sym (ap (λ (b : Bool). b || f n) q) ∙ e)) ∙ or-true (anyTo g n)

@@ -9,11 +9,11 @@ use borrow.Author.Tests.{eqb-true, eq-eqb, ne-eqb}
 use lib.Dec.{eqb}
 use lib.ListN.{length, getD, length-map}
 use lib.Seq.{length-take-le, ext-getD}
+use Rattle.laws.proofs.Tests.{left-fails, right-fails, left-holds, both, both-made}
 use Rattle.curve.specs.Bands.{allTo}
 use Rattle.curve.proofs.Walks.{all-more, all-fails, all-at, all-made}
 use Rattle.register.specs.declared.entries.Entry.{Entry}
 use Rattle.register.specs.Entries.{keyOf, sameText, sameKey}
-use Rattle.register.proofs.Tests.{left-fails, right-fails, left-holds, both, both-made}
 
 -- ---- two texts, byte after byte
 -- the first n bytes are the same

@@ -2,6 +2,7 @@
 use quantity::BandSet;
 use quantity::Fen;
 use quantity::Tenths;
+use quantity::byte;
 use rating::A1Kind;
 use rating::A3Kind;
 use rating::I1Kind;
@@ -155,13 +156,6 @@ pub fn set_of(e: Entry, kind: Kind) -> BandSet
     }
 }
 
-// The byte at a place of a text; 0 past its end.
-fn byte_at(s: &[u8], i: usize) -> u8
-    ensures { λ r. ⌜ r ≡ getD (now (s .entry)) i 0 ⌝ }
-{
-    if i < s.len() { s[i] } else { 0 }
-}
-
 // A key, with zeros after it.
 fn kept_key(key: &[u8]) -> [u8; 32]
     ensures { λ r. ⌜ r ≡ listed (λ i. getD (now (key .entry)) i 0) 32 0 ⌝ }
@@ -169,7 +163,7 @@ fn kept_key(key: &[u8]) -> [u8; 32]
     let mut bytes = [0u8; 32];
     let mut i = 0;
     while i < 32 {
-        let b = byte_at(key, i);
+        let b = byte(key, i);
         bytes[i] = b;
         i += 1;
     }

@@ -9,6 +9,7 @@ use lib.Dec.{leb, eqb}
 use lib.IntN.{ℤ}
 use lib.ListN.{length, getD, replicate, take, drop, length-append, length-drop}
 use lib.Seq.{length-take-le}
+use Rattle.quantity.specs.Keys.{byteAt}
 use Rattle.quantity.specs.Quantities.{inRange}
 use Rattle.quantity.specs.declared.quantities.Tenths.{Tenths}
 use Rattle.quantity.specs.declared.refusals.Refusal.{Refusal}
@@ -31,7 +32,7 @@ use Rattle.reply.specs.declared.requests.Reply.{Reply}
 use Rattle.answer.specs.Texts.{others, lineText, kindText, fieldsOf, ratedText, noRequestText}
 use Rattle.request.specs.Texts.{Band}
 use Rattle.request.specs.Texts.Band.{missing, level}
-use Rattle.request.specs.Reading.{byteAt, Bands, bandsAt, keySpan, kindAt, Asked, withBands, withKey, withKind, requestAt}
+use Rattle.request.specs.Reading.{Bands, bandsAt, keySpan, kindAt, Asked, withBands, withKey, withKind, requestAt}
 use Rattle.request.specs.Reading.Bands.{broken, ended}
 use Rattle.request.specs.Reading.Asked.{asked}
 use Rattle.request.specs.Gathering.{nought, valueOf, faultOf, firstFault, marksOf, valuesOf, Holds, GatheredAt}

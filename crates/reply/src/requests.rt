@@ -2,6 +2,7 @@
 use quantity::BandSet;
 use quantity::Outcome;
 use quantity::Refusal;
+use quantity::byte;
 use rating::Kind;
 use rating::Rated;
 use rating::bands_of;
@@ -9,7 +10,6 @@ use rating::sheet_of;
 use request::Gathered;
 use request::Named;
 use request::bands_at;
-use request::byte;
 use request::key_span;
 use request::kind_at;
 ghost use mathlib.Core.Path.{_≡_};

@@ -10,13 +10,14 @@ use lib.Dec.{ltb, eqb, eqb·suc-zero}
 use lib.IntN.{ℤ, pos, negsuc}
 use lib.ListN.{length, length-append}
 use Rattle.laws.specs.Parts.{P, N}
+use Rattle.quantity.specs.Keys.{byteAt}
 use Rattle.request.specs.declared.bands.Figure.{Figure}
 use Rattle.request.specs.declared.bands.Figure.the-variants.{Read, Nothing}
 use Rattle.answer.specs.Texts.{decimal}
 use Rattle.request.specs.Texts.{figureText, levelText, markText, bandText, Band, BandOk}
 use Rattle.request.specs.Texts.Band.{missing, level}
 use Rattle.request.specs.Texts.BandOk.{gone, given}
-use Rattle.request.specs.Reading.{byteAt, digitOf, digitAt, tenthAt, thirdAt, secondAt, firstAt, figureAt, Found, signedBy, levelAt, bandAt}
+use Rattle.request.specs.Reading.{digitOf, digitAt, tenthAt, thirdAt, secondAt, firstAt, figureAt, Found, signedBy, levelAt, bandAt}
 use Rattle.request.specs.Reading.Found.{found}
 use Rattle.request.proofs.Leaves.{inside, digit-read, digit-made}
 use Rattle.request.proofs.Readers.{tenth-got, third-point, second-point, second-more, first-point, first-more, figure-some, figure-none}

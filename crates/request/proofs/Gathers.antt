@@ -8,6 +8,7 @@ use lib.Pow.{pow-mono}
 use native.Mathlib.Omega.{arith}
 use lib.ListN.{length, set, replicate, length-append, length-map, length-set}
 use lib.Seq.{set-at}
+use Rattle.quantity.specs.Keys.{byteAt}
 use Rattle.quantity.specs.declared.quantities.Tenths.{Tenths}
 use Rattle.quantity.specs.declared.refusals.Refusal.{Refusal}
 use Rattle.quantity.specs.declared.refusals.Outcome.{Outcome}
@@ -16,7 +17,7 @@ use Rattle.quantity.specs.Refusals.{orElse}
 use Rattle.request.specs.declared.bands.Field.{Field}
 use Rattle.request.specs.declared.bands.Gathered.{Gathered}
 use Rattle.request.specs.Texts.{Band}
-use Rattle.request.specs.Reading.{byteAt, Found, bandAt, Bands, bandsFrom, bandsAt}
+use Rattle.request.specs.Reading.{Found, bandAt, Bands, bandsFrom, bandsAt}
 use Rattle.request.specs.Reading.Found.{found}
 use Rattle.request.specs.Reading.Bands.{broken, ended}
 use Rattle.request.specs.Gathering.{nought, valueOf, markOf, faultOf, firstFault, bitOf, marksOf, valuesOf, fieldOf, weightBy, GatheredAt}

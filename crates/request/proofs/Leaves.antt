@@ -7,8 +7,8 @@ use native.Mathlib.Omega.{arith}
 use borrow.Author.Tests.{le-leb, lt-leb, leb-true}
 use lib.Dec.{leb, T}
 use lib.ListN.{length}
-use Rattle.quantity.specs.Keys.{between}
-use Rattle.request.specs.Reading.{byteAt, digitOf}
+use Rattle.quantity.specs.Keys.{byteAt, between}
+use Rattle.request.specs.Reading.{digitOf}
 
 pub inside : (s : List ℕ) (i : ℕ) → 0 < byteAt s i → i < length s
 inside [] i h = absurd (omega arith)

@@ -9,7 +9,7 @@ use lib.Dec.{ltb, eqb}
 use lib.IntN.{ℤ, pos, negℤ, _-ℤ_}
 use lib.ListN.{length, drop}
 use Rattle.laws.proofs.Ints.{ints, minus, opposite, eq-made, apart}
-use Rattle.quantity.specs.Keys.{between, keyByte}
+use Rattle.quantity.specs.Keys.{byteAt, between, keyByte}
 use Rattle.quantity.specs.Quantities.{inRange}
 use Rattle.quantity.proofs.Rim.{range-yes}
 use Rattle.quantity.proofs.Shapes.{key-range}
@@ -21,7 +21,7 @@ use Rattle.request.specs.Texts.Band.{missing, level}
 use Rattle.request.specs.declared.bands.Field.{Field}
 use Rattle.request.specs.declared.bands.Figure.{Figure}
 use Rattle.request.specs.declared.bands.Figure.the-variants.{Read, Nothing}
-use Rattle.request.specs.Reading.{byteAt, digitOf, digitAt, tenthBy, tenthAt, thirdAt, secondAt, firstAt, figureAt}
+use Rattle.request.specs.Reading.{digitOf, digitAt, tenthBy, tenthAt, thirdAt, secondAt, firstAt, figureAt}
 use Rattle.request.specs.Reading.{Found, signedBy, levelAt, bandAt, bandsFrom, keySpan, kindAt}
 use Rattle.request.specs.Reading.Bands.{broken, ended}
 use Rattle.request.specs.declared.heads.Named.{Named}

@@ -5,7 +5,7 @@ use Prim.Native.Nat.{ℕ, suc, _+_, _≤_, _<_}
 use native.Mathlib.Omega.{arith}
 use lib.ListN.{length, take, drop, length-append}
 use lib.Seq.{drop-cons, getD-at}
-use Rattle.request.specs.Reading.{byteAt}
+use Rattle.quantity.specs.Keys.{byteAt}
 
 pub record Stood (s : List ℕ) (at b : ℕ) : Type 0 where
   pub within : at < length s

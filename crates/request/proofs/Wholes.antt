@@ -9,7 +9,7 @@ use borrow.Author.Tests.{le-leb, leb-true, eq-eqb, eqb-true, eqb-false}
 use lib.Dec.{leb, eqb}
 use lib.ListN.{length, take, drop, length-append, length-drop}
 use lib.Seq.{drop-cons, length-take-le, take-all}
-use Rattle.quantity.specs.Keys.{keyByte, KeyBytes, KeyOk}
+use Rattle.quantity.specs.Keys.{byteAt, keyByte, KeyBytes, KeyOk}
 use Rattle.quantity.proofs.Shapes.{key-range}
 use Rattle.rating.specs.declared.kinds.Kind.{Kind}
 use Rattle.rating.specs.declared.kinds.Kind.the-variants.{A3, A1, I3, I1}
@@ -17,7 +17,7 @@ use Rattle.request.specs.declared.heads.Named.{Named}
 use Rattle.request.specs.declared.heads.Named.the-variants as named
 use Rattle.answer.specs.Texts.{others, lineText, kindText}
 use Rattle.request.specs.Texts.{Band, bandText, BandsOk, requestText}
-use Rattle.request.specs.Reading.{byteAt, Found, bandAt, Bands, bandsFrom, bandsAt, keySpan, kindAt, Asked, withBands, withKey, withKind, requestAt, Request, whole, requestOf}
+use Rattle.request.specs.Reading.{Found, bandAt, Bands, bandsFrom, bandsAt, keySpan, kindAt, Asked, withBands, withKey, withKind, requestAt, Request, whole, requestOf}
 use Rattle.request.specs.Reading.Found.{found}
 use Rattle.request.specs.Reading.Bands.{broken, ended}
 use Rattle.request.specs.Reading.Asked.{asked}

@@ -5,8 +5,8 @@ use mathlib.Core.List.{List, [], _∷_, _++_}
 use Prim.Native.Nat.{ℕ, zero, suc, _+_, _*_, _-_}
 use lib.Dec.{leb, ltb, eqb}
 use lib.IntN.{pos, negℤ}
-use lib.ListN.{length, getD, take, drop}
-use Rattle.quantity.specs.Keys.{between, keyByte}
+use lib.ListN.{length, take, drop}
+use Rattle.quantity.specs.Keys.{byteAt, between, keyByte}
 use Rattle.rating.specs.declared.kinds.Kind.{Kind}
 use Rattle.rating.specs.declared.kinds.Kind.the-variants.{A3, A1, I3, I1}
 use Rattle.request.specs.declared.bands.Figure.{Figure}
@@ -15,9 +15,6 @@ use Rattle.request.specs.declared.heads.Named.{Named}
 use Rattle.request.specs.declared.heads.Named.the-variants as named
 use Rattle.request.specs.Texts.{Band}
 use Rattle.request.specs.Texts.Band.{missing, level}
-
-abbrev pub byteAt : List ℕ → ℕ → ℕ
-byteAt s i = getD s i 0
 
 -- the value of a digit; 10 for any other byte
 unfoldable pub digitOf : ℕ → ℕ

@@ -1,10 +1,10 @@
 // Bands: one field, and all of a line.
-use crate::bytes::byte;
 use crate::bytes::digit;
 use crate::bytes::is_digit;
 use quantity::Outcome;
 use quantity::Refusal;
 use quantity::Tenths;
+use quantity::byte;
 use quantity::signed::less;
 ghost use mathlib.Core.Path.{_≡_};
 ghost use Prim.Native.Nat.{_+_, _≤_, _<_};

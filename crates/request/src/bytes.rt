@@ -1,14 +1,7 @@
-// Single bytes of a line.
+// The digits of a line.
 ghost use mathlib.Core.Path.{_≡_};
 ghost use Rattle.quantity.specs.Keys.{between};
-ghost use Rattle.request.specs.Reading.{byteAt, digitOf};
-
-// The byte at a position; 0 past the end.
-pub fn byte(s: &[u8], at: usize) -> u8
-    ensures { λ r. ⌜ r ≡ byteAt (now (s .entry)) at ⌝ }
-{
-    if at < s.len() { s[at] } else { 0 }
-}
+ghost use Rattle.request.specs.Reading.{digitOf};
 
 // Whether a byte is a digit.
 pub fn is_digit(b: u8) -> bool

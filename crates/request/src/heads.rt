@@ -1,5 +1,5 @@
 // The head of a request: its kind and its key.
-use crate::bytes::byte;
+use quantity::byte;
 use quantity::is_key;
 use rating::Kind;
 ghost use mathlib.Core.Path.{_≡_};

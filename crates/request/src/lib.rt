@@ -8,7 +8,6 @@ mod heads;
 
 pub use bands::Gathered;
 pub use bands::bands_at;
-pub use bytes::byte;
 pub use heads::Named;
 pub use heads::key_span;
 pub use heads::kind_at;

@@ -5,10 +5,11 @@ use mathlib.Core.List.{[], _∷_, _++_}
 use native.Mathlib.Omega.{arith}
 use borrow.Author.Needs.{needs}
 use lib.IntN.{ℤ, pos}
+use Rattle.laws.specs.Lists.{listed}
+use Rattle.laws.proofs.Lists.{Agreed, agreed-none, agreed-set, agreed-then}
 use Rattle.quantity.specs.Quantities.{bandOf}
 use Rattle.quantity.proofs.Rim.{back}
-use Rattle.measurement.specs.Lists.{listed, setNumbers}
-use Rattle.door.proofs.Listing.{Agreed, agreed-none, agreed-set, agreed-then}
+use Rattle.measurement.specs.Lists.{setNumbers}
 use Rattle.door.proofs.given.set_numbers.Statement.{statement}
 use Rattle.door.proofs.given.set_numbers.Tie as tie
 

@@ -5,9 +5,9 @@ use mathlib.Core.Path.{refl}
 use native.Mathlib.Omega.{arith}
 use borrow.Author.Needs.{needs}
 use lib.Ieee.{nan}
+use Rattle.laws.proofs.Lists.{Agreed, agreed-none, agreed-set, agreed-all}
 use Rattle.quantity.specs.declared.quantities.Reading.the-variants.{Level}
 use Rattle.door.specs.Lists.{readingAt, readingsFrom}
-use Rattle.door.proofs.Listing.{Agreed, agreed-none, agreed-set, agreed-all}
 use Rattle.door.proofs.lists.readings_from.Statement.{statement}
 use Rattle.door.proofs.lists.readings_from.Tie as tie
 

@@ -6,9 +6,9 @@ use native.Mathlib.Omega.{arith}
 use borrow.Author.Needs.{needs}
 use lib.IntN.{pos}
 use lib.ListN.{length}
+use Rattle.laws.proofs.Lists.{Agreed, agreed-none, agreed-set, agreed-all}
 use Rattle.quantity.specs.declared.quantities.Tenths.{Tenths}
 use Rattle.door.specs.Lists.{tenthsAt, setFrom}
-use Rattle.door.proofs.Listing.{Agreed, agreed-none, agreed-set, agreed-all}
 use Rattle.door.proofs.lists.set_from.Statement.{statement}
 use Rattle.door.proofs.lists.set_from.Tie as tie
 

@@ -17,8 +17,8 @@ abbrev μ-loop : tie.MeasureT-loop
 loop-holds : tie.Need-loop-holds Inv-loop μ-loop
 loop-holds c = agreed-none 0 (λ j. getD (c .before .args .key .now) j 0) 32 _ refl
 
-byte-at-requires : tie.Need-byte-at-requires Inv-loop μ-loop
-byte-at-requires c κs = search needs
+byte-requires : tie.Need-byte-requires Inv-loop μ-loop
+byte-requires c κs = search needs
 
 array-write-bytes : tie.Need-array-write-bytes Inv-loop μ-loop
 array-write-bytes c = omega arith
@@ -32,7 +32,7 @@ loop-less c = omega arith
 loop-again : tie.Need-loop-again Inv-loop μ-loop
 loop-again c =
     let l = c .before .before .loop in
-    agreed-set 0 (λ j. getD (c .before .before .before .before .args .key .now) j 0) 32 (l .bytes) (l .i) (c .byte-at .result) (omega arith) (c .byte-at .ensures) (l .inv)
+    agreed-set 0 (λ j. getD (c .before .before .before .before .args .key .now) j 0) 32 (l .bytes) (l .i) (c .byte .result) (omega arith) (c .byte .ensures) (l .inv)
 
 returns : tie.Need-returns Inv-loop μ-loop
 returns c =
@@ -46,7 +46,7 @@ kept-key-spec =
     Inv-loop
     μ-loop
     loop-holds
-    byte-at-requires
+    byte-requires
     array-write-bytes
     add-i
     loop-less

@@ -3,7 +3,7 @@ use mathlib.Core.Path.{_∙_, sym, refl}
 use Prim.Native.Nat.{_+_, _*_, _-_, _≤_}
 use native.Mathlib.Omega.{arith}
 use borrow.Author.Tests.{not-false}
-use Rattle.request.specs.Reading.{byteAt}
+use Rattle.quantity.specs.Keys.{byteAt}
 use Rattle.request.proofs.Leaves.{digit-between}
 use Rattle.request.proofs.Readers.{short-read, short-one, short-two}
 use borrow.Author.Needs.{needs}

@@ -5,8 +5,8 @@ use Prim.Native.Nat.{_+_, _-_, _≤_}
 use native.Mathlib.Omega.{arith}
 use mathlib.Core.Bool.{true, false}
 use lib.ListN.{length, drop}
-use Rattle.quantity.specs.Keys.{keyByte}
-use Rattle.request.specs.Reading.{byteAt, keySpan}
+use Rattle.quantity.specs.Keys.{byteAt, keyByte}
+use Rattle.request.specs.Reading.{keySpan}
 use Rattle.request.proofs.Readers.{span-start, span-turn, span-out}
 use Rattle.request.proofs.heads.key_span.Statement.{statement}
 use Rattle.request.proofs.heads.key_span.Tie as tie

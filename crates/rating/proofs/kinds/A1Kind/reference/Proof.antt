@@ -1,7 +1,8 @@
 -- `rating::kinds::A1Kind::reference` meets its contract: the entries of the reference curve are computed. Assumes nothing.
 use mathlib.Core.Path.{refl}
+use Rattle.laws.specs.Lists.{listed}
 use Rattle.rating.specs.Kinds.{referenceOf, referencesOf}
-use Rattle.rating.specs.Numbers.{entriesOf, listed}
+use Rattle.rating.specs.Numbers.{entriesOf}
 use Rattle.rating.proofs.kinds.A1Kind.reference.Statement.{statement}
 use Rattle.rating.proofs.kinds.A1Kind.reference.Tie as tie
 

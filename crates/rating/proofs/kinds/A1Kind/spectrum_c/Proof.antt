@@ -1,7 +1,8 @@
 -- `rating::kinds::A1Kind::spectrum_c` meets its contract: the entries of the spectrum C are computed. Assumes nothing.
 use mathlib.Core.Path.{refl}
+use Rattle.laws.specs.Lists.{listed}
 use Rattle.rating.specs.Kinds.{C, spectraC}
-use Rattle.rating.specs.Numbers.{firstOf, listed}
+use Rattle.rating.specs.Numbers.{firstOf}
 use Rattle.rating.proofs.kinds.A1Kind.spectrum_c.Statement.{statement}
 use Rattle.rating.proofs.kinds.A1Kind.spectrum_c.Tie as tie
 

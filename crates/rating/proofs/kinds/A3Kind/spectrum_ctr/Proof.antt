@@ -1,7 +1,8 @@
 -- `rating::kinds::A3Kind::spectrum_ctr` meets its contract: the entries of the spectrum Ctr are computed. Assumes nothing.
 use mathlib.Core.Path.{refl}
+use Rattle.laws.specs.Lists.{listed}
 use Rattle.rating.specs.Kinds.{Ctr, spectraCtr}
-use Rattle.rating.specs.Numbers.{secondOf, listed}
+use Rattle.rating.specs.Numbers.{secondOf}
 use Rattle.rating.proofs.kinds.A3Kind.spectrum_ctr.Statement.{statement}
 use Rattle.rating.proofs.kinds.A3Kind.spectrum_ctr.Tie as tie
 

@@ -1,8 +1,9 @@
 -- `rating::kinds::I1Kind::numbers` meets its contract: each list is the definition's. Assumes nothing.
 use borrow.Author.Needs.{needs}
+use Rattle.laws.specs.Lists.{listed}
 use Rattle.rating.specs.declared.kinds.Kind.the-variants.{I1}
 use mathlib.Core.Bool.{false}
-use Rattle.rating.specs.Numbers.{numbersOf, firstOf, secondOf, listed}
+use Rattle.rating.specs.Numbers.{numbersOf, firstOf, secondOf}
 use Rattle.rating.proofs.kinds.I1Kind.numbers.Statement.{statement}
 use Rattle.rating.proofs.kinds.I1Kind.numbers.Tie as tie
 

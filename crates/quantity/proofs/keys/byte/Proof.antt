@@ -1,9 +1,9 @@
--- `line::bytes::byte` meets its contract: past the end the list gives its default. Assumes nothing.
+-- `quantity::keys::byte` meets its contract: past the end the list gives its default. Assumes nothing.
 use borrow.Author.Needs.{needs}
 use mathlib.Core.Path.{sym}
 use lib.ListN.{List·getD-eq-default}
-use Rattle.request.proofs.bytes.byte.Statement.{statement}
-use Rattle.request.proofs.bytes.byte.Tie as tie
+use Rattle.quantity.proofs.keys.byte.Statement.{statement}
+use Rattle.quantity.proofs.keys.byte.Tie as tie
 
 shared-slice-read-result : tie.Need-shared-slice-read-result
 shared-slice-read-result c = search needs
