@@ -3,46 +3,41 @@
 use mathlib.Core.Path.{_≡_, refl, sym, _∙_, ap, ap₂, subst⁻¹}
 use mathlib.Core.Bool.{Bool, true, false, _&&_, _||_, not, cond}
 use mathlib.Core.List.{List}
-use Prim.Native.Nat.{ℕ, zero, suc, _+_, _%_, _^_, _≤_, _<_}
+use Prim.Native.Nat.{ℕ, _+_, _≤_, _<_}
 use native.Mathlib.Nat.{zero-add}
 use native.Mathlib.Numerals.{add-one}
 use native.Mathlib.Omega.{arith}
-use borrow.Author.Tests.{lt-ltb, le-leb, leb-true, eqb-true}
-use lib.Dec.{eqb, leb}
-use lib.IntN.{ℤ, pos}
+use borrow.Author.Tests.{lt-ltb, le-leb, eqb-true}
+use lib.Dec.{eqb}
 use lib.ListN.{length, getD, take, set, length-set, length-replicate}
 use lib.Seq.{getD-set-same, getD-set-other, getD-take, length-take-le, ext-getD}
 use Rattle.laws.specs.Lists.{listed}
-use Rattle.laws.specs.Sums.{sumTo}
 use Rattle.laws.proofs.Lists.{length-listed, getD-listed}
 use Rattle.laws.proofs.Sums.{sum-same, sum-more}
-use Rattle.laws.proofs.Tests.{both, both-made}
+use Rattle.laws.proofs.Tests.{both-made}
 use Rattle.quantity.specs.Keys.{keyShape}
-use Rattle.quantity.specs.Quantities.{bandOf, priced}
+use Rattle.quantity.specs.Quantities.{bandOf}
 use Rattle.quantity.specs.declared.quantities.BandSet.{BandSet}
 use Rattle.quantity.specs.declared.quantities.Tenths.{Tenths}
 use Rattle.quantity.specs.declared.refusals.Refusal.the-variants.{BandCount, BandRange}
 use Rattle.quantity.proofs.Shapes.{key-shape}
 use Rattle.curve.specs.Bands.{allTo, anyTo, accepted}
-use Rattle.curve.specs.Levels.{Count}
 use Rattle.curve.proofs.Walks.{all-more, all-same, any-same}
 use Rattle.curve.proofs.Searched.{count-most}
 use Rattle.rating.specs.declared.kinds.Kind.{Kind}
 use Rattle.rating.specs.declared.kinds.Named.{Named}
-use Rattle.rating.specs.declared.kinds.Named.the-variants.{Is, Unknown}
 use Rattle.rating.specs.declared.sheets.Sheet.{Sheet}
 use Rattle.rating.specs.declared.sheets.Rated.{Rated}
 use Rattle.rating.specs.declared.sheets.Rated.the-variants.{Rating, Refused}
-use Rattle.rating.specs.Kinds.{bandsOf, kindOf, kindNumber}
+use Rattle.rating.specs.Kinds.{bandsOf}
 use Rattle.rating.specs.Sheets.{asked, sheetOf, ratedOf}
 use Rattle.rating.proofs.Facts.{count-of}
 use Rattle.rating.proofs.Numbered.{kind-of-number}
 use Rattle.rating.proofs.Theorems.{past-length}
 use Rattle.register.specs.declared.entries.Entry.{Entry}
 use Rattle.register.specs.declared.entries.Register.{Register}
-use Rattle.register.specs.Entries.{keyOf, valueOf, setOf, sameText, sameKey, sameBands, isSheet, ratable, keyed, entryOk, Call, nought, keptValue, entryOf}
+use Rattle.register.specs.Entries.{keyOf, setOf, sameText, sameKey, sameBands, isSheet, ratable, entryOk, Call, nought, keptValue, entryOf}
 use Rattle.register.specs.Registers.{noEntry, opened, entryAt, repeated, sound, known, held, priceFor, totalIn, withEntry, dueOf, afterBy, afterOf, Due}
-use Rattle.register.specs.Registers.Due.{refuse, repeat, enter}
 use Rattle.register.specs.Histories.{Calls, left, sameCaller}
 use Rattle.register.specs.Histories.Calls.{start, next}
 use Rattle.register.proofs.Sameness.{bit-mod}

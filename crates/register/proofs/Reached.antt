@@ -1,23 +1,21 @@
 -- 19 is given to exactly the registers that no calls could have left so: what calls leave is sound, and a sound register is
 -- left by the calls that its entries tell of, up to what never matters. Registers that differ only there stay so under every
 -- call. Assumes nothing.
-use mathlib.Core.Path.{_≡_, refl, sym, _∙_, ap, ap₂, subst⁻¹}
-use mathlib.Core.Bool.{Bool, true, false, _&&_, not, cond}
-use mathlib.Core.List.{List}
-use Prim.Native.Nat.{ℕ, zero, suc, _+_, _%_, _^_, _≤_, _<_}
-use native.Mathlib.Nat.{le-refl, zero-add, mod-mod}
+use mathlib.Core.Path.{_≡_, refl, sym, _∙_, ap, subst⁻¹}
+use mathlib.Core.Bool.{true, false, _&&_}
+use Prim.Native.Nat.{ℕ, zero, suc, _+_, _^_, _≤_, _<_}
+use native.Mathlib.Nat.{le-refl, mod-mod}
 use native.Mathlib.Numerals.{add-one}
 use native.Mathlib.Decide.{ℕ-discrete}
 use native.Mathlib.Omega.{arith}
-use borrow.Author.Tests.{lt-ltb, leb-true, not-true}
-use lib.Dec.{eqb, leb, ltb}
-use lib.ListN.{length, getD, take}
+use borrow.Author.Tests.{lt-ltb, leb-true}
+use lib.Dec.{leb}
+use lib.ListN.{length}
 use lib.Seq.{length-take-le}
-use Rattle.laws.specs.Lists.{listed}
-use Rattle.laws.proofs.Tests.{never, refuted, both}
+use Rattle.laws.proofs.Tests.{never, both}
 use Rattle.quantity.specs.Keys.{keyShape}
 use Rattle.quantity.specs.Quantities.{priced}
-use Rattle.curve.specs.Bands.{allTo, anyTo}
+use Rattle.curve.specs.Bands.{anyTo}
 use Rattle.curve.proofs.Walks.{all-at, any-same}
 use Rattle.rating.specs.declared.kinds.Kind.{Kind}
 use Rattle.rating.specs.declared.kinds.Kind.the-variants.{A3}
@@ -31,12 +29,12 @@ use Rattle.rating.specs.Sheets.{ratedOf}
 use Rattle.rating.proofs.Numbered.{kind-of-number, kind-number-of}
 use Rattle.register.specs.declared.entries.Entry.{Entry}
 use Rattle.register.specs.declared.entries.Register.{Register}
-use Rattle.register.specs.Entries.{keyOf, valueOf, setOf, bandsBy, bandsIn, marksTo, sameKey, isSheet, ratable, keyed, entryOk, Call, callOf, keptValue, entryOf}
-use Rattle.register.specs.Registers.{opened, entryAt, repeated, sound, known, held, withEntry, dueOf, placeDue, afterBy, afterOf, Due}
-use Rattle.register.specs.Registers.Due.{refuse, repeat, enter}
+use Rattle.register.specs.Entries.{keyOf, setOf, bandsBy, marksTo, sameKey, isSheet, ratable, keyed, entryOk, Call, callOf, entryOf}
+use Rattle.register.specs.Registers.{opened, entryAt, sound, known, withEntry, dueOf, afterBy, afterOf, Due}
+use Rattle.register.specs.Registers.Due.{enter}
 use Rattle.register.specs.Histories.{Calls, left, SameEntry, SameRegister, CouldBeLeft, Full}
 use Rattle.register.specs.Histories.Calls.{start, next}
-use Rattle.register.proofs.Grown.{Grown, left-grown, key-kept, value-kept, entry-old, entry-new}
+use Rattle.register.proofs.Grown.{left-grown, key-kept, value-kept, entry-old, entry-new}
 use Rattle.register.proofs.Dues.{place-free, unknown-held}
 use Rattle.register.proofs.Histories.{after-is}
 use Rattle.register.proofs.Soundness.{all-ok, sound-fresh, sound-most}

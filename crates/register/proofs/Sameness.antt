@@ -1,11 +1,9 @@
 -- What never matters: entries and registers that differ at most past a key's length, past the kind's bands and from the count
 -- on are told the same, by every definition of the register. Assumes nothing.
-use mathlib.Core.Path.{_≡_, refl, sym, _∙_, ap, ap₂, subst}
-use mathlib.Core.Bool.{Bool, true, false, _&&_, _||_, not, cond}
-use mathlib.Core.List.{List}
-use Prim.Native.Nat.{ℕ, zero, suc, _+_, _*_, _-_, _/_, _%_, _^_, _≤_, _<_}
+use mathlib.Core.Path.{_≡_, refl, sym, _∙_, ap, ap₂}
+use mathlib.Core.Bool.{_&&_, not, cond}
+use Prim.Native.Nat.{ℕ, _+_, _*_, _-_, _/_, _%_, _^_, _≤_, _<_}
 use native.Mathlib.Nat.{mul-div-cancel}
-use native.Mathlib.Numerals.{one-add}
 use native.Mathlib.Omega.{arith}
 use lib.Dec.{eqb, leb, ltb}
 use lib.IntN.{ℤ}
@@ -29,7 +27,7 @@ use Rattle.rating.proofs.Theorems.{past-length}
 use Rattle.register.specs.declared.entries.Entry.{Entry}
 use Rattle.register.specs.declared.entries.Register.{Register}
 use Rattle.register.specs.declared.totals.Owed.the-variants as owed
-use Rattle.register.specs.Entries.{keyOf, valueOf, setOf, bandsBy, bandsIn, marksTo, sameText, sameValue, sameKey, sameValues, sameBands, isSheet, ratable, entryOk, Call, entryOf}
+use Rattle.register.specs.Entries.{valueOf, setOf, bandsBy, bandsIn, marksTo, sameText, sameValue, sameKey, sameValues, sameBands, isSheet, ratable, entryOk, Call, entryOf}
 use Rattle.register.specs.Registers.{entryAt, repeated, sound, known, held, priceFor, totalIn, owedOf, placeDue, ratedDue, dueOf, billedBy, billedOf, Due}
 use Rattle.register.specs.Registers.Due.{refuse, repeat, enter}
 use Rattle.register.specs.Histories.{SameEntry, SameRegister}
