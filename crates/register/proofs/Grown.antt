@@ -191,7 +191,7 @@ unfolding afterOf
 after-grown r x g = go (seen r x)
   where
     go : Seen r x → Grown (afterBy (dueOf r x) r (entryOf x))
-    go (turned refusal d) = subst⁻¹ (λ (d : Due). Grown (afterBy d r (entryOf x))) d g
+    go (turned refusal w d) = subst⁻¹ (λ (d : Due). Grown (afterBy d r (entryOf x))) d g
     go (retried sheet t h d) = subst⁻¹ (λ (d : Due). Grown (afterBy d r (entryOf x))) d g
     go (added sheet t k room d) =
         subst⁻¹ (λ (d : Due). Grown (afterBy d r (entryOf x))) d (with-grown r (entryOf x) g (entered-ok t) k room)

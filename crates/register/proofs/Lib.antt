@@ -9,4 +9,5 @@ pub mod Sameness
 pub mod Seen
 pub mod Grown
 pub mod Histories
+pub mod Asked
 pub mod Reached

@@ -2,20 +2,24 @@
 -- left by the calls that its entries tell of, up to what never matters. Registers that differ only there stay so under every
 -- call. Assumes nothing.
 use mathlib.Core.Path.{_≡_, refl, sym, _∙_, ap, subst⁻¹}
-use mathlib.Core.Bool.{true, false, _&&_}
+use mathlib.Core.Bool.{true, false, _&&_, Bool}
 use Prim.Native.Nat.{ℕ, zero, suc, _+_, _^_, _≤_, _<_}
 use native.Mathlib.Nat.{le-refl, mod-mod}
 use native.Mathlib.Numerals.{add-one}
 use native.Mathlib.Decide.{ℕ-discrete}
 use native.Mathlib.Omega.{arith}
 use borrow.Author.Tests.{lt-ltb, leb-true}
-use lib.Dec.{leb}
+use lib.Dec.{eqb, leb}
 use lib.ListN.{length}
 use lib.Seq.{length-take-le}
-use Rattle.laws.proofs.Tests.{never, both}
+use Rattle.laws.proofs.Tests.{never, refuted, both}
 use Rattle.quantity.specs.Keys.{keyShape}
 use Rattle.quantity.specs.Quantities.{priced}
-use Rattle.curve.specs.Bands.{anyTo}
+use Rattle.quantity.specs.Refusals.{numberOf}
+use Rattle.quantity.specs.declared.quantities.BandSet.{BandSet}
+use Rattle.quantity.specs.declared.refusals.Refusal.{Refusal}
+use Rattle.quantity.specs.declared.refusals.Refusal.the-variants.{BandCount, BandRange, RegisterDamaged}
+use Rattle.curve.specs.Bands.{anyTo, accepted}
 use Rattle.curve.proofs.Walks.{all-at, any-same}
 use Rattle.rating.specs.declared.kinds.Kind.{Kind}
 use Rattle.rating.specs.declared.kinds.Kind.the-variants.{A3}
@@ -25,21 +29,24 @@ use Rattle.rating.specs.declared.sheets.Sheet.{Sheet}
 use Rattle.rating.specs.declared.sheets.Rated.{Rated}
 use Rattle.rating.specs.declared.sheets.Rated.the-variants.{Rating, Refused}
 use Rattle.rating.specs.Kinds.{bandsOf, kindOf, kindNumber}
-use Rattle.rating.specs.Sheets.{ratedOf}
+use Rattle.rating.specs.Sheets.{asked, sheetOf, ratedOf}
 use Rattle.rating.proofs.Numbered.{kind-of-number, kind-number-of}
 use Rattle.register.specs.declared.entries.Entry.{Entry}
 use Rattle.register.specs.declared.entries.Register.{Register}
+use Rattle.register.specs.declared.steps.Billed.the-variants as billed
+use Rattle.register.specs.declared.totals.Owed.the-variants as owed
 use Rattle.register.specs.Entries.{keyOf, setOf, bandsBy, marksTo, sameKey, isSheet, ratable, keyed, entryOk, Call, callOf, entryOf}
-use Rattle.register.specs.Registers.{opened, entryAt, sound, known, withEntry, dueOf, afterBy, afterOf, Due}
+use Rattle.register.specs.Registers.{opened, entryAt, sound, known, withEntry, dueOf, afterBy, afterOf, Due, billedOf, owedOf, totalIn}
 use Rattle.register.specs.Registers.Due.{enter}
 use Rattle.register.specs.Histories.{Calls, left, SameEntry, SameRegister, CouldBeLeft, Full}
 use Rattle.register.specs.Histories.Calls.{start, next}
 use Rattle.register.proofs.Grown.{left-grown, key-kept, value-kept, entry-old, entry-new}
-use Rattle.register.proofs.Dues.{place-free, unknown-held}
-use Rattle.register.proofs.Histories.{after-is}
-use Rattle.register.proofs.Soundness.{all-ok, sound-fresh, sound-most}
+use Rattle.register.proofs.Dues.{place-free, unknown-held, due-damaged}
+use Rattle.register.proofs.Histories.{after-is, billed-is}
+use Rattle.register.proofs.Soundness.{all-ok, sound-fresh, sound-most, owed-damaged, owed-total}
 use Rattle.register.proofs.Sameness.{same-entry, key-alike, sound-same, due-same}
-use Rattle.register.proofs.Seen.{Taken, Seen, seen, placed}
+use Rattle.register.proofs.Seen.{Taken, Why, Seen, seen, placed}
+use Rattle.register.proofs.Seen.Why.{damaged, misshapen, unrated, dear, other, crowded}
 use Rattle.register.proofs.Seen.Seen.{turned, retried, added}
 
 -- ---- registers that differ only in what never matters stay so
@@ -78,7 +85,7 @@ after-same r s x a h g = go (seen r x)
         (subst⁻¹ (λ (u : Register). SameRegister r u) (after-is s x (sym (due-same a x) ∙ q) ∙ f) a)
 
     go : Seen r x → SameRegister (afterOf r x) (afterOf s x)
-    go (turned n d) = kept d refl refl
+    go (turned n w d) = kept d refl refl
     go (retried sheet t k d) = kept d refl refl
     go (added sheet t k room d) =
         subst⁻¹ (λ (u : Register). SameRegister u (afterOf s x)) (after-is r x d)
@@ -238,3 +245,73 @@ module _ (r : Register) (whole : sound r ≡ true) (full : Full r) where
 -- and one that calls could have left passes
 pub left-sound : (r : Register) → CouldBeLeft r → sound r ≡ true
 left-sound r l = sym (sound-same (l .same)) ∙ left-grown (l .calls) .whole
+
+-- ---- 19, on the answers
+
+-- rating never refuses with 19, nor with 11
+rated-number : (k : Kind) (s : BandSet) (n : Refusal) → ratedOf k s ≡ Refused n → numberOf n ≤ 4
+unfolding ratedOf
+rated-number k s n e = by-length (eqb (s .len) (bandsOf k)) refl
+  where
+    by-range : eqb (s .len) (bandsOf k) ≡ true → (b : Bool) → accepted s (bandsOf k) ≡ b → numberOf n ≤ 4
+    by-range p true q =
+        let c : Rating (sheetOf k s) ≡ Refused n = sym (λ i. asked (p i) (asked (q i) (Rating (sheetOf k s)) (Refused BandRange)) (Refused BandCount)) ∙ e in
+        let z : _≡_ {A = ℕ} 0 1 = cc in
+        absurd (omega arith)
+    by-range p false q =
+        let c : Refused BandRange ≡ Refused n = sym (λ i. asked (p i) (asked (q i) (Rating (sheetOf k s)) (Refused BandRange)) (Refused BandCount)) ∙ e in
+        let d : BandRange ≡ n = cc in
+        let m : 4 ≡ numberOf n = ap numberOf d in
+        omega arith
+
+    by-length : (b : Bool) → eqb (s .len) (bandsOf k) ≡ b → numberOf n ≤ 4
+    by-length true p = by-range p (accepted s (bandsOf k)) refl
+    by-length false p =
+        let c : Refused BandCount ≡ Refused n = sym (λ i. asked (p i) (asked (accepted s (bandsOf k)) (Rating (sheetOf k s)) (Refused BandRange)) (Refused BandCount)) ∙ e in
+        let d : BandCount ≡ n = cc in
+        let m : 1 ≡ numberOf n = ap numberOf d in
+        omega arith
+
+why-damaged : {r : Register} {x : Call} (n : Refusal) → Why r x n → numberOf n ≡ 19 → sound r ≡ false
+why-damaged n (damaged s) e = s
+why-damaged n (misshapen s k) e = absurd (omega arith)
+why-damaged {r} {x} n (unrated s k q) e = absurd (omega (arith, rated-number (x .kind) (x .set) n q))
+why-damaged n (dear s k q p) e = absurd (omega arith)
+why-damaged n (other t h k) e = absurd (omega arith)
+why-damaged n (crowded t k m) e = absurd (omega arith)
+
+damaged-bill : (r : Register) (x : Call) → billedOf r x ≡ billed.Refused RegisterDamaged → sound r ≡ false
+damaged-bill r x e = go (seen r x)
+  where
+    go : Seen r x → sound r ≡ false
+    go (turned n w d) =
+        let c : billed.Refused n ≡ billed.Refused RegisterDamaged = sym (billed-is r x d) ∙ e in
+        let q : n ≡ RegisterDamaged = cc in
+        why-damaged n w (ap numberOf q)
+    go (retried sheet t h d) =
+        let c : billed.Charged sheet (record { 0 = 0 }) ≡ billed.Refused RegisterDamaged = sym (billed-is r x d) ∙ e in
+        let z : _≡_ {A = ℕ} 0 1 = cc in
+        absurd (omega arith)
+    go (added sheet t k room d) =
+        let c : billed.Charged sheet (record { 0 = x .price }) ≡ billed.Refused RegisterDamaged = sym (billed-is r x d) ∙ e in
+        let z : _≡_ {A = ℕ} 0 1 = cc in
+        absurd (omega arith)
+
+-- 19 is given only to a register that no calls could have left so
+pub nineteen-right : (r : Register) (x : Call) → billedOf r x ≡ billed.Refused RegisterDamaged → CouldBeLeft r → ⊥
+nineteen-right r x e l = never (left-sound r l) (damaged-bill r x e)
+
+-- and to every such register, whatever is asked
+module _ (r : Register) (full : Full r) (none : CouldBeLeft r → ⊥) where
+  broken : sound r ≡ false
+  broken = refuted (sound r) (λ s. none (sound-left r s full))
+
+  pub nineteen-billed : (x : Call) → billedOf r x ≡ billed.Refused RegisterDamaged
+  nineteen-billed x = billed-is r x (due-damaged r x broken)
+
+  pub nineteen-owed : (customer : ℕ) → owedOf r customer ≡ owed.Refused RegisterDamaged
+  nineteen-owed customer = sym (owed-damaged r customer broken)
+
+-- a total is given of every register that calls could have left
+pub total-given : (r : Register) (customer : ℕ) → CouldBeLeft r → owedOf r customer ≡ owed.Total (record { 0 = totalIn r customer })
+total-given r customer l = sym (owed-total r customer (record { 0 = totalIn r customer }) (left-sound r l) refl)

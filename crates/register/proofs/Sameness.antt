@@ -2,14 +2,16 @@
 -- on are told the same, by every definition of the register. Assumes nothing.
 use mathlib.Core.Path.{_≡_, refl, sym, _∙_, ap, ap₂}
 use mathlib.Core.Bool.{_&&_, not, cond}
-use Prim.Native.Nat.{ℕ, _+_, _*_, _-_, _/_, _%_, _^_, _≤_, _<_}
-use native.Mathlib.Nat.{mul-div-cancel}
+use Prim.Native.Nat.{ℕ, zero, suc, _+_, _*_, _-_, _/_, _%_, _^_, _≤_, _<_}
+use native.Mathlib.Nat.{le-refl, mul-div-cancel}
+use native.Mathlib.Numerals.{one-add}
 use native.Mathlib.Omega.{arith}
 use lib.Dec.{eqb, leb, ltb}
 use lib.IntN.{ℤ}
 use lib.Pow.{mod-pow-add, mod-mod-pow, pow-pos}
 use Rattle.laws.specs.Sums.{sumTo}
 use Rattle.laws.proofs.Sums.{sum-same}
+use Rattle.laws.proofs.Tests.{never}
 use Rattle.quantity.specs.Keys.{keyShape}
 use Rattle.quantity.specs.Quantities.{priced}
 use Rattle.quantity.specs.declared.refusals.Refusal.the-variants.{NotRequest, PriceRange, OtherBands, RegisterFull, RegisterDamaged}
@@ -54,6 +56,26 @@ bit-mod m n i h = ap (λ (x : ℕ). eqb x 1) (halves (low / 2 ^ i % 2) (m / 2 ^ 
 
 pub marks-bits : (m l n : ℕ) → marksTo n m ≡ marksTo n l → (i : ℕ) → i < n → bit m i ≡ bit l i
 marks-bits m l n e i h = sym (bit-mod m n i h) ∙ ap (λ (x : ℕ). bit x i) e ∙ bit-mod l n i h
+
+-- and back
+digit : (a b : ℕ) → a < 2 → b < 2 → eqb a 1 ≡ eqb b 1 → a ≡ b
+digit zero zero h g e = refl
+digit zero (suc zero) h g e = absurd (never refl (sym e))
+digit (suc zero) zero h g e = absurd (never refl e)
+digit (suc zero) (suc zero) h g e = refl
+digit zero (suc (suc b)) h g e = absurd (omega arith)
+digit (suc zero) (suc (suc b)) h g e = absurd (omega arith)
+digit (suc (suc a)) b h g e = absurd (omega arith)
+
+pub marks-made : (m l n : ℕ) → ((i : ℕ) → i < n → bit m i ≡ bit l i) → marksTo n m ≡ marksTo n l
+marks-made m l zero h = let a : m % 2 ^ 0 ≡ 0 = omega arith in let b : l % 2 ^ 0 ≡ 0 = omega arith in a ∙ sym b
+marks-made m l (suc n) h =
+    parted m
+    ∙ ap₂ (λ (a b : ℕ). a * 2 ^ n + b) (digit (m / 2 ^ n % 2) (l / 2 ^ n % 2) (omega arith) (omega arith) (h n (le-refl (suc n)))) (marks-made m l n (λ i q. h i (omega arith)))
+    ∙ sym (parted l)
+  where
+    parted : (k : ℕ) → k % 2 ^ suc n ≡ (k / 2 ^ n % 2) * 2 ^ n + k % 2 ^ n
+    parted k = ap (λ (j : ℕ). k % 2 ^ j) (sym (one-add n)) ∙ mod-pow-add k 1 n
 
 -- ---- entries
 module _ {e f : Entry} (s : SameEntry e f) where

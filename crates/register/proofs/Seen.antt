@@ -2,8 +2,8 @@
 -- Assumes nothing.
 use mathlib.Core.Path.{_≡_, refl, _∙_}
 use mathlib.Core.Bool.{Bool, true, false}
-use Prim.Native.Nat.{_<_}
-use borrow.Author.Tests.{ltb-true}
+use Prim.Native.Nat.{_≤_, _<_}
+use borrow.Author.Tests.{ltb-true, ltb-false}
 use lib.Dec.{ltb}
 use Rattle.quantity.specs.Keys.{keyShape}
 use Rattle.quantity.specs.Quantities.{priced}
@@ -29,9 +29,19 @@ pub record Taken (r : Register) (x : Call) (sheet : Sheet) : Type 0 where
 pub placed : (r : Register) (x : Call) (sheet : Sheet) → Taken r x sheet → dueOf r x ≡ placeDue r (entryOf x) sheet
 placed r x sheet t = due-placed r x (t .whole) (t .shape) sheet (t .rated) (t .price)
 
+-- why a call is refused, in the order of the tests
+pub data Why (r : Register) (x : Call) : Refusal → Type 0 where
+  damaged : sound r ≡ false → Why r x RegisterDamaged
+  misshapen : sound r ≡ true → keyShape (x .key) ≡ false → Why r x NotRequest
+  unrated : {refusal : Refusal} → sound r ≡ true → keyShape (x .key) ≡ true → ratedOf (x .kind) (x .set) ≡ Refused refusal → Why r x refusal
+  dear : {sheet : Sheet} → sound r ≡ true → keyShape (x .key) ≡ true → ratedOf (x .kind) (x .set) ≡ Rating sheet → priced (x .price) ≡ false
+      → Why r x PriceRange
+  other : {sheet : Sheet} → Taken r x sheet → held r (entryOf x) ≡ false → known r (entryOf x) ≡ true → Why r x OtherBands
+  crowded : {sheet : Sheet} → Taken r x sheet → known r (entryOf x) ≡ false → 512 ≤ r .count → Why r x RegisterFull
+
 -- the three ways, with what is known on each
 pub data Seen (r : Register) (x : Call) : Type 0 where
-  turned : (refusal : Refusal) → dueOf r x ≡ refuse refusal → Seen r x
+  turned : (refusal : Refusal) → Why r x refusal → dueOf r x ≡ refuse refusal → Seen r x
   retried : (sheet : Sheet) → Taken r x sheet → held r (entryOf x) ≡ true → dueOf r x ≡ repeat sheet → Seen r x
   added : (sheet : Sheet) → Taken r x sheet → known r (entryOf x) ≡ false → r .count < 512 → dueOf r x ≡ enter sheet → Seen r x
 
@@ -41,10 +51,10 @@ seen r x = by-sound (sound r) refl
     by-room : (sheet : Sheet) → Taken r x sheet → held r (entryOf x) ≡ false → known r (entryOf x) ≡ false → (b : Bool) → ltb (r .count) 512 ≡ b
         → Seen r x
     by-room sheet t h k true l = added sheet t k (ltb-true (r .count) 512 l) (placed r x sheet t ∙ place-free r (entryOf x) sheet h k l)
-    by-room sheet t h k false l = turned RegisterFull (placed r x sheet t ∙ place-full r (entryOf x) sheet h k l)
+    by-room sheet t h k false l = turned RegisterFull (crowded t k (ltb-false (r .count) 512 l)) (placed r x sheet t ∙ place-full r (entryOf x) sheet h k l)
 
     by-known : (sheet : Sheet) → Taken r x sheet → held r (entryOf x) ≡ false → (b : Bool) → known r (entryOf x) ≡ b → Seen r x
-    by-known sheet t h true k = turned OtherBands (placed r x sheet t ∙ place-known r (entryOf x) sheet h k)
+    by-known sheet t h true k = turned OtherBands (other t h k) (placed r x sheet t ∙ place-known r (entryOf x) sheet h k)
     by-known sheet t h false k = by-room sheet t h k (ltb (r .count) 512) refl
 
     by-held : (sheet : Sheet) → Taken r x sheet → (b : Bool) → held r (entryOf x) ≡ b → Seen r x
@@ -55,16 +65,16 @@ seen r x = by-sound (sound r) refl
         → priced (x .price) ≡ b → Seen r x
     by-price sheet s k e true p =
         by-held sheet (record { whole = s; shape = k; rated = e; price = p }) (held r (entryOf x)) refl
-    by-price sheet s k e false p = turned PriceRange (due-price r x s k sheet e p)
+    by-price sheet s k e false p = turned PriceRange (dear s k e p) (due-price r x s k sheet e p)
 
     by-rated : sound r ≡ true → keyShape (x .key) ≡ true → (d : Rated) → ratedOf (x .kind) (x .set) ≡ d → Seen r x
     by-rated s k (Rating sheet) e = by-price sheet s k e (priced (x .price)) refl
-    by-rated s k (Refused refusal) e = turned refusal (due-refused r x s k refusal e)
+    by-rated s k (Refused refusal) e = turned refusal (unrated s k e) (due-refused r x s k refusal e)
 
     by-shape : sound r ≡ true → (b : Bool) → keyShape (x .key) ≡ b → Seen r x
     by-shape s true k = by-rated s k (ratedOf (x .kind) (x .set)) refl
-    by-shape s false k = turned NotRequest (due-shape r x s k)
+    by-shape s false k = turned NotRequest (misshapen s k) (due-shape r x s k)
 
     by-sound : (b : Bool) → sound r ≡ b → Seen r x
     by-sound true s = by-shape s (keyShape (x .key)) refl
-    by-sound false s = turned RegisterDamaged (due-damaged r x s)
+    by-sound false s = turned RegisterDamaged (damaged s) (due-damaged r x s)

@@ -40,3 +40,18 @@ any-mono f g (suc n) m e = go (any-mono f g n m) (anyTo f n) refl
     go : (anyTo f n ≡ true → anyTo g n ≡ true) → (b : Bool) → anyTo f n ≡ b → anyTo g n || g n ≡ true
     go before true q = ap (λ (b : Bool). b || g n) (before q)
     go before false q = ap (λ (b : Bool). anyTo g n || b) (m n (sym (ap (λ (b : Bool). b || f n) q) ∙ e)) ∙ or-true (anyTo g n)
+
+-- a number below n that passes
+pub record Some (ok : ℕ → Bool) (n : ℕ) : Type 0 where
+  pub at : ℕ
+  pub below : at < n
+  pub passes : ok at ≡ true
+
+pub any-some : (ok : ℕ → Bool) (n : ℕ) → anyTo ok n ≡ true → Some ok n
+unfolding anyTo
+any-some ok zero e = absurd (never e refl)
+any-some ok (suc n) e = go (any-some ok n) (anyTo ok n) refl
+  where
+    go : (anyTo ok n ≡ true → Some ok n) → (b : Bool) → anyTo ok n ≡ b → Some ok (suc n)
+    go before true q = let s = before q in record { at = s .at; below = omega (arith, s .below); passes = s .passes }
+    go before false q = record { at = n; below = le-refl (suc n); passes = sym (ap (λ (b : Bool). b || ok n) q) ∙ e }
