@@ -1,6 +1,6 @@
 -- `register::entries::entry_of` meets its contract, field by field. Assumes nothing.
-use Rattle.register.proofs.Bands.{entry-made}
 use borrow.Author.Needs.{needs}
+use Rattle.register.proofs.Bands.{entry-made}
 use Rattle.register.proofs.entries.entry_of.Statement.{statement}
 use Rattle.register.proofs.entries.entry_of.Tie as tie
 

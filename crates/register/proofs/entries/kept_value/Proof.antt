@@ -1,6 +1,6 @@
 -- `register::entries::kept_value` meets its contract: each way is a case of the test. Assumes nothing.
-use Rattle.register.proofs.Bands.{kept-within, kept-past}
 use borrow.Author.Needs.{needs}
+use Rattle.register.proofs.Bands.{kept-within, kept-past}
 use Rattle.register.proofs.entries.kept_value.Statement.{statement}
 use Rattle.register.proofs.entries.kept_value.Tie as tie
 

@@ -1,7 +1,7 @@
 -- `register::entries::marks_of` meets its contract: in each arm the remainder is by the power of two of the kind's bands. Assumes
 -- nothing.
-use Rattle.register.proofs.Bands.{marks-by}
 use borrow.Author.Needs.{needs}
+use Rattle.register.proofs.Bands.{marks-by}
 use Rattle.register.proofs.entries.marks_of.Statement.{statement}
 use Rattle.register.proofs.entries.marks_of.Tie as tie
 

@@ -1,7 +1,7 @@
 -- `register::entries::same_bands` meets its contract: the kind, then the marks, then the values. Assumes nothing.
 use mathlib.Core.Path.{_∙_}
-use Rattle.register.proofs.Bands.{bands-kind, bands-marks, bands-values, bands-most}
 use borrow.Author.Needs.{needs}
+use Rattle.register.proofs.Bands.{bands-kind, bands-marks, bands-values, bands-most}
 use Rattle.register.proofs.entries.same_bands.Statement.{statement}
 use Rattle.register.proofs.entries.same_bands.Tie as tie
 

@@ -1,12 +1,13 @@
 -- `register::entries::same_key` meets its contract: the customer first, then the texts, which are the keys. Assumes nothing.
 use mathlib.Core.Path.{_∙_}
-use Rattle.register.proofs.Texts.{key-room, key-length, key-customer, key-text}
+use native.Mathlib.Omega.{arith}
 use borrow.Author.Needs.{needs}
+use Rattle.register.proofs.Texts.{key-room, key-length, key-customer, key-text}
 use Rattle.register.proofs.entries.same_key.Statement.{statement}
 use Rattle.register.proofs.entries.same_key.Tie as tie
 
 returns : tie.Need-returns
-returns c = key-customer (c .before .before .before .args .e) (c .before .before .before .args .f) (c .if1 .taken)
+returns c = key-customer (c .before .before .before .args .e) (c .before .before .before .args .f) (omega arith)
 
 cast-n : tie.Need-cast-n
 cast-n c = search needs
@@ -41,7 +42,7 @@ returns-2 : tie.Need-returns-2
 returns-2 c =
     let b = c .before .before .before .before .before .before .before in
     let a = b .before .before .before .args in
-    c .same-text .ensures ∙ key-text (a .e) (a .f) (b .if1 .left)
+    c .same-text .ensures ∙ key-text (a .e) (a .f) (omega arith)
 
 pub same-key-spec : {M : Type 1} → statement M
 same-key-spec =

@@ -1,8 +1,8 @@
 -- `register::sound::entry_ok` meets its contract: the price, then the bands, then the key. Assumes nothing.
 use mathlib.Core.Path.{sym, _∙_}
 use borrow.Author.Tests.{not-true, not-false}
-use Rattle.register.proofs.Soundness.{ok-price, ok-ratable, ok-by}
 use borrow.Author.Needs.{needs}
+use Rattle.register.proofs.Soundness.{ok-price, ok-ratable, ok-by}
 use Rattle.register.proofs.sound.entry_ok.Statement.{statement}
 use Rattle.register.proofs.sound.entry_ok.Tie as tie
 

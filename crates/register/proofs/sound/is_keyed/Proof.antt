@@ -1,8 +1,8 @@
 -- `register::sound::is_keyed` meets its contract: the length, then the shape of the text, which is the key. Assumes nothing.
 use mathlib.Core.Path.{_∙_}
+use borrow.Author.Needs.{needs}
 use Rattle.register.proofs.Texts.{key-room, key-length}
 use Rattle.register.proofs.Soundness.{keyed-long, keyed-by}
-use borrow.Author.Needs.{needs}
 use Rattle.register.proofs.sound.is_keyed.Statement.{statement}
 use Rattle.register.proofs.sound.is_keyed.Tie as tie
 

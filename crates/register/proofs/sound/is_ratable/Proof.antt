@@ -1,8 +1,8 @@
 -- `register::sound::is_ratable` meets its contract: bands of a kind are rated where they are in range. Assumes nothing.
 use mathlib.Core.Path.{_∙_}
+use borrow.Author.Needs.{needs}
 use Rattle.register.proofs.Bands.{bands-most}
 use Rattle.register.proofs.Soundness.{ratable-as}
-use borrow.Author.Needs.{needs}
 use Rattle.register.proofs.sound.is_ratable.Statement.{statement}
 use Rattle.register.proofs.sound.is_ratable.Tie as tie
 

@@ -3,11 +3,11 @@
 use mathlib.Core.Path.{_≡_, sym, _∙_}
 use mathlib.Core.Bool.{true}
 use borrow.Author.Tests.{not-true, not-false}
+use borrow.Author.Needs.{needs}
 use Rattle.curve.specs.Bands.{allTo}
 use Rattle.register.specs.Entries.{entryOk}
 use Rattle.register.specs.Registers.{entryAt}
 use Rattle.register.proofs.Soundness.{shorts, looked-many, looked-bad, looked}
-use borrow.Author.Needs.{needs}
 use Rattle.register.proofs.sound.look.Statement.{statement}
 use Rattle.register.proofs.sound.look.Tie as tie
 

@@ -3,6 +3,7 @@ use mathlib.Core.Path.{_≡_, sym, _∙_}
 use mathlib.Core.Bool.{true}
 use native.Mathlib.Omega.{arith}
 use borrow.Author.Tests.{not-true, not-false}
+use borrow.Author.Needs.{needs}
 use Rattle.quantity.specs.Keys.{keyShape}
 use Rattle.quantity.specs.declared.refusals.Refusal.the-variants.{NotRequest, PriceRange, RegisterDamaged}
 use Rattle.quantity.proofs.Shapes.{key-shape}
@@ -12,7 +13,6 @@ use Rattle.register.specs.Entries.{Call, callOf}
 use Rattle.register.specs.Registers.{sound}
 use Rattle.register.proofs.Bands.{entry-length, entry-kind}
 use Rattle.register.proofs.Dues.{due-damaged, due-shape, due-refused, due-price, due-placed, step-refused, step-placed}
-use borrow.Author.Needs.{needs}
 use Rattle.register.proofs.steps.enter.Statement.{statement}
 use Rattle.register.proofs.steps.enter.Tie as tie
 

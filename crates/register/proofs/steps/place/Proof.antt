@@ -1,11 +1,11 @@
 -- `register::steps::place` meets its contract: of a sound register, what is due by the place of the key. Assumes nothing.
 use mathlib.Core.Path.{refl, sym, _∙_}
 use native.Mathlib.Omega.{arith}
+use borrow.Author.Needs.{needs}
 use Rattle.quantity.specs.declared.refusals.Refusal.the-variants.{OtherBands, RegisterFull}
 use Rattle.register.specs.Registers.{placeDue}
 use Rattle.register.proofs.Soundness.{sound-most, sound-short}
 use Rattle.register.proofs.Dues.{due-same, due-other, due-new, due-full, refused-by}
-use borrow.Author.Needs.{needs}
 use Rattle.register.proofs.steps.place.Statement.{statement}
 use Rattle.register.proofs.steps.place.Tie as tie
 

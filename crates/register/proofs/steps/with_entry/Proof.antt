@@ -1,7 +1,7 @@
 -- `register::steps::with_entry` meets its contract. Assumes nothing.
 use mathlib.Core.Path.{refl}
-use Rattle.register.specs.Registers.{withEntry}
 use borrow.Author.Needs.{needs}
+use Rattle.register.specs.Registers.{withEntry}
 use Rattle.register.proofs.steps.with_entry.Statement.{statement}
 use Rattle.register.proofs.steps.with_entry.Tie as tie
 

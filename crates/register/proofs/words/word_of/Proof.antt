@@ -1,7 +1,7 @@
 -- `register::words::word_of` meets its contract: the word is of the key. Assumes nothing.
+use borrow.Author.Needs.{needs}
 use Rattle.register.specs.Words.{wordOf}
 use Rattle.register.proofs.Texts.{key-room, key-length}
-use borrow.Author.Needs.{needs}
 use Rattle.register.proofs.words.word_of.Statement.{statement}
 use Rattle.register.proofs.words.word_of.Tie as tie
 
