@@ -22,7 +22,7 @@ use Rattle.quantity.specs.Answers.{Answer, flag}
 use Rattle.door.specs.Answers.{returned, held}
 use Rattle.quantity.specs.Answers.Answer.{refused, numbers}
 use Rattle.intake.specs.Taken.{takenAnswer}
-use Rattle.rating.specs.Sheets.{termOf, termFlag, ratedAnswer}
+use Rattle.rating.specs.Sheets.{termOf, termFlag, sheetNumbers, ratedAnswer}
 use Rattle.products.specs.Covers.{improvementAnswer}
 use Rattle.products.specs.Grades.{gradedAnswer}
 use Rattle.door.specs.Given.{levelAnswer, Fitting, GradeFits}
@@ -48,11 +48,13 @@ pub level-given : (t : Taken) (v : Tenths) (limit : Bool) (x : ℤ) → t ≡ ta
 level-given t v limit x e p = ap (λ (z : ℤ). numbers (z ∷ [])) p ∙ ap levelAnswer (sym e)
 
 -- a sheet
-pub sheet-given : (t : Rated) (s : Sheet) (a b c d e f : ℤ) → t ≡ rated.Rating s → a ≡ s .rating .0 → b ≡ s .first .0 → c ≡ termOf (s .second)
+pub sheet-given : (s : Sheet) (a b c d e f : ℤ) → a ≡ s .rating .0 → b ≡ s .first .0 → c ≡ termOf (s .second)
     → d ≡ termFlag (s .second) → e ≡ pos (s .shifts) → f ≡ flag (s .limit)
-    → numbers (a ∷ b ∷ c ∷ d ∷ e ∷ f ∷ []) ≡ ratedAnswer t
-sheet-given t s a b c d e f h i j k l m n =
-    ap numbers (cc) ∙ ap ratedAnswer (sym h)
+    → a ∷ b ∷ c ∷ d ∷ e ∷ f ∷ [] ≡ sheetNumbers s
+sheet-given s a b c d e f i j k l m n = cc
+
+pub rated-given : (t : Rated) (s : Sheet) (l : List ℤ) → t ≡ rated.Rating s → l ≡ sheetNumbers s → numbers l ≡ ratedAnswer t
+rated-given t s l h e = ap numbers e ∙ ap ratedAnswer (sym h)
 
 pub fitting : (t : Rated) (s : Sheet) → t ≡ rated.Rating s → Fitting t → s .shifts ≤ 500
 fitting t s e h = subst Fitting e h

@@ -3,3 +3,5 @@ pub mod Doors
 pub mod Fronts
 pub mod Listing
 pub mod Gives
+pub mod Bills
+pub mod Meaning

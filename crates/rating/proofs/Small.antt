@@ -126,3 +126,8 @@ rated-by k s sheet e = go (eqb (s .len) (bandsOf k)) (accepted s (bandsOf k)) re
         record { acc = f; same = q; small = subst SmallSheet (sym q) (sheet-small k s f) }
     go true false f g = absurd (clash (cc))
     go false b f g = absurd (clash (cc))
+
+-- its count of shifts is that of the search
+pub rated-shifts : (k : Kind) (s : BandSet) (sheet : Sheet) → ratedOf k s ≡ Rating sheet → sheet .shifts ≤ 500
+unfolding sheetOf
+rated-shifts k s sheet e = rw (rated-by k s sheet e .same) (shifts-most k (bandOf s))

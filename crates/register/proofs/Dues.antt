@@ -115,11 +115,11 @@ module _ (r : Register) (x : Call) where
 
 -- ---- the answer and the register
 pub refused-by : (r : Register) (s : Step) (f : Refusal) (d : Due) (e : Entry) (p : ℕ) → s ≡ record { register = r; billed = Refused f } → d ≡ refuse f
-    → (s .register ≡ afterBy d r e) × (s .billed ≡ billedBy d p)
-refused-by r s f d e p h g = rw g (ap (λ (t : Step). t .register) h, ap (λ (t : Step). t .billed) h)
+    → (s .billed ≡ billedBy d p) × (s .register ≡ afterBy d r e)
+refused-by r s f d e p h g = rw g (ap (λ (t : Step). t .billed) h, ap (λ (t : Step). t .register) h)
 
 abbrev pub Steps : Register → Call → Step → Type 0
-Steps r x s = (s .register ≡ afterOf r x) × (s .billed ≡ billedOf r x)
+Steps r x s = (s .billed ≡ billedOf r x) × (s .register ≡ afterOf r x)
 
 module _ (r : Register) (x : Call) (s : Step) where
   pub step-refused : (f : Refusal) → s ≡ record { register = r; billed = Refused f } → dueOf r x ≡ refuse f → Steps r x s
@@ -127,6 +127,6 @@ module _ (r : Register) (x : Call) (s : Step) where
   step-refused f e d = refused-by r s f (dueOf r x) (entryOf x) (x .price) e d
 
   pub step-placed : (e : Entry) (sheet : Sheet) → e ≡ entryOf x → dueOf r x ≡ placeDue r (entryOf x) sheet
-      → s .register ≡ afterBy (placeDue r e sheet) r e → s .billed ≡ billedBy (placeDue r e sheet) (e .price .0) → Steps r x s
+      → s .billed ≡ billedBy (placeDue r e sheet) (e .price .0) → s .register ≡ afterBy (placeDue r e sheet) r e → Steps r x s
   unfolding afterOf billedOf entryOf
-  step-placed e sheet p d a b = rw d (a ∙ ap (λ (f : Entry). afterBy (placeDue r f sheet) r f) p, b ∙ ap (λ (f : Entry). billedBy (placeDue r f sheet) (f .price .0)) p)
+  step-placed e sheet p d b a = rw d (b ∙ ap (λ (f : Entry). billedBy (placeDue r f sheet) (f .price .0)) p, a ∙ ap (λ (f : Entry). afterBy (placeDue r f sheet) r f) p)

@@ -7,6 +7,7 @@ pub mod Soundness
 pub mod Dues
 pub mod Sameness
 pub mod Seen
+pub mod Fits
 pub mod Grown
 pub mod Histories
 pub mod Asked

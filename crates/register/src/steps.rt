@@ -60,8 +60,8 @@ fn place(register: Register, words: [u32; 512], e: Entry, kind: Kind, sheet: She
     requires { ⌜ sound register ≡ true ⌝ }
     requires { ⌜ WordsOf register (register .count) words ⌝ }
     requires { ⌜ (e .length ≤ 32) × (e .kind ≡ kindNumber kind) ⌝ }
-    ensures { λ r. ⌜ r .register ≡ afterBy (placeDue register e sheet) register e ⌝ }
     ensures { λ r. ⌜ r .billed ≡ billedBy (placeDue register e sheet) (e .price .0) ⌝ }
+    ensures { λ r. ⌜ r .register ≡ afterBy (placeDue register e sheet) register e ⌝ }
 {
     let count = register.count;
     let at = place_of(register, &words, count, e, word_of(e));
@@ -94,8 +94,8 @@ pub fn enter(
     set: BandSet,
     price: Fen,
 ) -> Step
-    ensures { λ r. ⌜ r .register ≡ afterOf register (callOf customer (now (key .entry)) kind set (price .0)) ⌝ }
     ensures { λ r. ⌜ r .billed ≡ billedOf register (callOf customer (now (key .entry)) kind set (price .0)) ⌝ }
+    ensures { λ r. ⌜ r .register ≡ afterOf register (callOf customer (now (key .entry)) kind set (price .0)) ⌝ }
 {
     let looked = look(register);
     if !looked.sound {

@@ -49,7 +49,7 @@ returns-3 : tie.Need-returns-3
 returns-3 c =
     let t = c .before .before .before in
     let s = t .before .before .before .before in
-    rw (due-new (s .args .t1) (s .args .e) (s .args .sheet) (t .before .place-of .ensures .missed (t .if1 .left)) (c .before .before .if3 .taken)) (c .with-entry .ensures, refl)
+    rw (due-new (s .args .t1) (s .args .e) (s .args .sheet) (t .before .place-of .ensures .missed (t .if1 .left)) (c .before .before .if3 .taken)) (refl, c .with-entry .ensures)
 
 refuse-requires-2 : tie.Need-refuse-requires-2
 refuse-requires-2 c κs = search needs

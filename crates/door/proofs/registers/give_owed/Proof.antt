@@ -1,0 +1,61 @@
+-- `door::registers::give_owed` meets its contract. Assumes nothing.
+use borrow.Author.Needs.{needs}
+use Prim.Native.Nat.{_<_}
+use native.Mathlib.Omega.{arith}
+use Rattle.quantity.proofs.Rim.{as-pos}
+use Rattle.register.specs.Registers.{owedAnswer}
+use Rattle.door.proofs.Gives.{given}
+use Rattle.door.proofs.Bills.{owed-fitting, total-given}
+use Rattle.door.proofs.registers.give_owed.Statement.{statement}
+use Rattle.door.proofs.registers.give_owed.Tie as tie
+
+enum-known-owed : tie.Need-enum-known-owed
+enum-known-owed c = search needs
+
+cast-total : tie.Need-cast-total
+cast-total c =
+    let s = c .before .before .before .before in
+    let w = c .before .before .owed .given in
+    let h : w .0 .0 .0 < 2147483648 = omega (arith, owed-fitting (s .args .owed) (w .0 .0) (w .1) (s .pre)) in
+    record { sfits = h }
+
+array-set-from-answer : tie.Need-array-set-from-answer
+array-set-from-answer c = search needs
+
+give-requires : tie.Need-give-requires
+give-requires c κs = search needs
+
+enum-known-owed-2 : tie.Need-enum-known-owed-2
+enum-known-owed-2 c = search needs
+
+number-requires : tie.Need-number-requires
+number-requires c κs = search needs
+
+same-length : tie.Need-same-length
+same-length c = search needs
+
+returns : tie.Need-returns
+returns c =
+    let s = c .before .before .before .before .before .before .before in
+    let w = c .before .before .before .before .before .owed .given in
+    let g = c .before .give in
+    given _ (owedAnswer (s .args .owed)) (g .result) (s .args .out .now) (g .last .0)
+    (total-given (s .args .owed) (w .0 .0) (w .1) _ (as-pos (w .0 .0 .0) (omega (arith, owed-fitting (s .args .owed) (w .0 .0) (w .1) (s .pre)))))
+    (g .ensures)
+
+returns-2 : tie.Need-returns-2
+returns-2 c = search needs
+
+pub give-owed-spec : {M : Type 1} → statement M
+give-owed-spec =
+    tie.close
+    (tie.spec
+    enum-known-owed
+    cast-total
+    array-set-from-answer
+    give-requires
+    enum-known-owed-2
+    number-requires
+    same-length
+    returns
+    returns-2)
