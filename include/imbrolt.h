@@ -285,7 +285,11 @@ typedef struct imbrolt_entry {
 } imbrolt_entry;
 
 /* The keys that customers were charged for, in order of entry. It is the caller's memory: 57352 bytes
- * without gaps, which may be copied and kept as they are. Entries from the count on do not matter. */
+ * without gaps, at an address divisible by 8, which may be copied and kept as they are, for a machine
+ * of the same byte order. Entries from the count on do not matter. Whatever bytes are read back, a
+ * call answers as for a register that calls left, or with IMBROLT_REGISTER_DAMAGED.
+ *
+ * No call takes NULL for a register. A call on a register needs up to STACKNEED of stack. */
 typedef struct imbrolt_register {
     imbrolt_entry entries[IMBROLT_REGISTER_ENTRIES];
     uint64_t count;

@@ -1,5 +1,5 @@
 // The register of request keys, updated where it stands in the caller's memory (document 02, (x)). `bill` and `owed` are of one
-// form: the register is taken whole, handed to a step by value, and put back whole.
+// form: the register is taken from there whole and handed to a step by value; `bill` puts back what the step leaves of it.
 use quantity::BandSet;
 use quantity::Fen;
 use rating::Kind;

@@ -1,5 +1,5 @@
-// The register of request keys, in the caller's memory. Each call is of the form of `desk`'s: the register is taken whole,
-// handed to a step by value, and put back whole.
+// The register of request keys, in the caller's memory, in the form of `desk`'s calls: the register is taken from there whole and
+// handed to a step by value, and what the step leaves of it is put back.
 use door::bill_given;
 use door::owed_given;
 use register::Register;

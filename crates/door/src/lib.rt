@@ -1,5 +1,5 @@
-// What the C calls of `desk_c` are made of: sides by their numbers, readings and sets out of lent arrays, and the numbers of
-// each answer put into a lent array. Nothing here is called from C.
+// What the C calls of `desk_c` are made of: sides by their numbers, readings and sets out of lent arrays, the numbers of
+// each answer put into a lent array, and the register's calls by value. Nothing here is called from C.
 mod given;
 mod lists;
 mod registers;

@@ -1,5 +1,4 @@
--- What the code looks up keys by: a word of customer and key. Nothing in the answers depends on it, save that one customer and
--- key have one word.
+-- What the code looks up keys by: a word of customer and key, the same for one customer and key. No answer depends on it.
 use mathlib.Core.List.{List}
 use mathlib.Core.Path.{_≡_}
 use mathlib.Core.Bool.{Bool, true, false}
