@@ -11,9 +11,10 @@ use Rattle.intake.specs.declared.singles.Taken.the-variants as taken
 use Rattle.intake.specs.Taken.{takenAnswer}
 use Rattle.rating.specs.declared.sheets.Term.{Term}
 use Rattle.rating.specs.declared.sheets.Term.the-variants.{Given, Absent}
+use Rattle.rating.specs.declared.sheets.Sheet.{Sheet}
 use Rattle.rating.specs.declared.sheets.Rated.{Rated}
 use Rattle.rating.specs.declared.sheets.Rated.the-variants as rated
-use Rattle.rating.specs.Sheets.{termOf, termFlag, ratedAnswer}
+use Rattle.rating.specs.Sheets.{termOf, termFlag, sheetNumbers, ratedAnswer}
 use Rattle.products.specs.declared.covers.Cover.{Cover}
 use Rattle.products.specs.declared.covers.Cover.the-variants as cover
 use Rattle.products.specs.Covers.{improvementAnswer}
@@ -26,6 +27,11 @@ use Rattle.lift.specs.Calls.{countAnswer}
 use Rattle.line.specs.declared.lines.Wrote.{Wrote}
 use Rattle.line.specs.declared.lines.Wrote.the-variants as wrote
 use Rattle.line.specs.Answers.{wroteAnswer}
+use Rattle.register.specs.declared.steps.Billed.{Billed}
+use Rattle.register.specs.declared.steps.Billed.the-variants as billed
+use Rattle.register.specs.declared.totals.Owed.{Owed}
+use Rattle.register.specs.declared.totals.Owed.the-variants as owed
+use Rattle.register.specs.Registers.{billedAnswer, owedAnswer}
 
 pub taken-one : (a b : Taken) → takenAnswer a ≡ takenAnswer b → a ≡ b
 taken-one (taken.Value t l) (taken.Value s m) e =
@@ -42,21 +48,24 @@ term-one (Given d) Absent p q = let z : _≡_ {A = ℕ} 0 1 = cc in absurd (omeg
 term-one Absent (Given e) p q = let z : _≡_ {A = ℕ} 0 1 = cc in absurd (omega arith)
 term-one Absent Absent p q = refl
 
-pub rated-one : (a b : Rated) → ratedAnswer a ≡ ratedAnswer b → a ≡ b
-rated-one (rated.Rating s) (rated.Rating t) e =
+sheet-one : (s t : Sheet) → sheetNumbers s ≡ sheetNumbers t → s ≡ t
+sheet-one s t e =
     let rating : s .rating .0 ≡ t .rating .0 = cc in
     let first : s .first .0 ≡ t .first .0 = cc in
     let value : termOf (s .second) ≡ termOf (t .second) = cc in
     let given : termFlag (s .second) ≡ termFlag (t .second) = cc in
     let shifts : s .shifts ≡ t .shifts = cc in
     let mark : flag (s .limit) ≡ flag (t .limit) = cc in
-    λ i. rated.Rating (record {
+    λ i. record {
       rating = record { 0 = rating i };
       first = record { 0 = first i };
       second = term-one (s .second) (t .second) value given i;
       shifts = shifts i;
       limit = flag-one (s .limit) (t .limit) mark i;
-    })
+    }
+
+pub rated-one : (a b : Rated) → ratedAnswer a ≡ ratedAnswer b → a ≡ b
+rated-one (rated.Rating s) (rated.Rating t) e = let p : sheetNumbers s ≡ sheetNumbers t = cc in ap rated.Rating (sheet-one s t p)
 rated-one (rated.Rating s) (rated.Refused t) e = clash (sym e)
 rated-one (rated.Refused r) (rated.Rating t) e = clash e
 rated-one (rated.Refused r) (rated.Refused s) e = let p : numberOf r ≡ numberOf s = cc in ap rated.Refused (number-one r s p)
@@ -102,3 +111,18 @@ wrote-one (wrote.Bytes m) (wrote.Bytes n) e = let p : m ≡ n = cc in ap wrote.B
 wrote-one (wrote.Bytes m) (wrote.Refused s) e = clash (sym e)
 wrote-one (wrote.Refused r) (wrote.Bytes n) e = clash e
 wrote-one (wrote.Refused r) (wrote.Refused s) e = let p : numberOf r ≡ numberOf s = cc in ap wrote.Refused (number-one r s p)
+
+pub billed-one : (a b : Billed) → billedAnswer a ≡ billedAnswer b → a ≡ b
+billed-one (billed.Charged s m) (billed.Charged t n) e =
+    let p : sheetNumbers s ≡ sheetNumbers t = cc in
+    let q : m .0 ≡ n .0 = cc in
+    λ i. billed.Charged (sheet-one s t p i) (record { 0 = q i })
+billed-one (billed.Charged s m) (billed.Refused f) e = clash (sym e)
+billed-one (billed.Refused r) (billed.Charged t n) e = clash e
+billed-one (billed.Refused r) (billed.Refused s) e = let p : numberOf r ≡ numberOf s = cc in ap billed.Refused (number-one r s p)
+
+pub owed-one : (a b : Owed) → owedAnswer a ≡ owedAnswer b → a ≡ b
+owed-one (owed.Total m) (owed.Total n) e = let p : m .0 ≡ n .0 = cc in λ i. owed.Total (record { 0 = p i })
+owed-one (owed.Total m) (owed.Refused s) e = clash (sym e)
+owed-one (owed.Refused r) (owed.Total n) e = clash e
+owed-one (owed.Refused r) (owed.Refused s) e = let p : numberOf r ≡ numberOf s = cc in ap owed.Refused (number-one r s p)

@@ -2,3 +2,4 @@
 pub mod Joined
 pub mod Answers
 pub mod Past
+pub mod Whole

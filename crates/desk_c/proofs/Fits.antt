@@ -1,32 +1,28 @@
 -- The count of shifts of every rating is at most 500, by the bound in its definition, and every grade at most 6, so that they
 -- fit an answer. Assumes nothing.
-use mathlib.Core.Path.{_≡_, sym, subst}
+use mathlib.Core.Path.{_≡_, refl, sym, subst}
 use mathlib.Core.Bool.{Bool, true, false, cond}
 use mathlib.Core.List.{List}
 use Prim.Native.Nat.{ℕ, _≤_}
 use native.Mathlib.Omega.{arith}
-use lib.Dec.{eqb}
 use lib.IntN.{ℤ, pos}
 use lib.Signed.{ltZ}
-use Rattle.quantity.specs.Quantities.{bandOf}
 use Rattle.quantity.specs.declared.quantities.BandSet.{BandSet}
 use Rattle.quantity.specs.declared.quantities.Reading.{Reading}
-use Rattle.quantity.specs.declared.refusals.Refusal.the-variants.{BandCount, BandRange}
 use Rattle.quantity.specs.declared.refusals.Outcome.{Outcome}
 use Rattle.quantity.specs.declared.refusals.Outcome.the-variants as outcome
 use Rattle.measurement.specs.Lists.{listOf}
-use Rattle.curve.specs.Bands.{accepted}
 use Rattle.rating.specs.declared.kinds.Kind.{Kind}
 use Rattle.rating.specs.declared.kinds.Kind.the-variants.{A3}
 use Rattle.rating.specs.declared.sheets.Rated.{Rated}
 use Rattle.rating.specs.declared.sheets.Rated.the-variants.{Rating, Refused}
 use Rattle.rating.specs.Kinds.{bandsOf}
-use Rattle.rating.specs.Sheets.{asked, sheetOf, ratedOf, ratedAnswer}
+use Rattle.rating.specs.Sheets.{ratedOf, ratedAnswer}
 use Rattle.products.specs.declared.grades.Side.{Side}
 use Rattle.products.specs.declared.grades.Graded.{Graded}
 use Rattle.means.specs.Sets.{specimensOf}
 use Rattle.products.specs.Grades.{gradeOf, decidingOf, gradedBy, graded, gradesOf, gradedAnswer}
-use Rattle.rating.proofs.Small.{shifts-most}
+use Rattle.rating.proofs.Small.{rated-shifts}
 use Rattle.door.specs.Given.{Fitting, GradeFits}
 use Rattle.desk.proofs.Answers.{rated-one, graded-one}
 use Rattle.desk.specs.Calls.{ratedBy, readingsRated}
@@ -36,13 +32,11 @@ fits-as : (r t : Rated) → ratedAnswer r ≡ ratedAnswer t → Fitting t → Fi
 fits-as r t e h = subst Fitting (sym (rated-one r t e)) h
 
 rated-fits : (k : Kind) (s : BandSet) → Fitting (ratedOf k s)
-unfolding ratedOf sheetOf
-rated-fits k s = go (eqb (s .len) (bandsOf k)) (accepted s (bandsOf k))
+rated-fits k s = go (ratedOf k s) refl
   where
-    go : (a b : Bool) → Fitting (asked a (asked b (Rating (sheetOf k s)) (Refused BandRange)) (Refused BandCount))
-    go true true = shifts-most k (bandOf s)
-    go true false = tt
-    go false b = tt
+    go : (t : Rated) → ratedOf k s ≡ t → Fitting t
+    go (Rating sheet) e = rated-shifts k s sheet e
+    go (Refused r) e = tt
 
 pub rate-fits : (k : Kind) (s : BandSet) (r : Rated) → ratedAnswer r ≡ ratedAnswer (ratedOf k s) → Fitting r
 rate-fits k s r e = fits-as r (ratedOf k s) e (rated-fits k s)
