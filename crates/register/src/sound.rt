@@ -4,7 +4,7 @@ use crate::entries::Entry;
 use crate::entries::Register;
 use crate::entries::set_of;
 use crate::words::distinct;
-use crate::words::words_of;
+use crate::words::word_of;
 use curve::levels::all_in_range;
 use quantity::is_key_of;
 use rating::Named;
@@ -12,11 +12,9 @@ use rating::bands_of;
 use rating::kind_of;
 ghost use mathlib.Core.Path.{_≡_};
 ghost use Prim.Native.Nat.{_≤_};
-ghost use Rattle.curve.specs.Bands.{allTo};
 ghost use Rattle.rating.specs.Kinds.{kindOf};
 ghost use Rattle.register.specs.Entries.{ratable, keyed, entryOk};
-ghost use Rattle.register.specs.Registers.{entryAt};
-ghost use Rattle.register.specs.Words.{LookedAt};
+ghost use Rattle.register.specs.Words.{EntriesAt, LookedAt};
 
 // Whether a register is sound, and the words of its entries where it is.
 pub struct Looked {
@@ -57,19 +55,26 @@ fn entry_ok(e: Entry) -> bool
     is_keyed(e)
 }
 
-fn entries_ok(register: Register, count: usize) -> bool
+// Looks through the first `count` entries, one by one.
+fn look_entries(register: Register, count: usize) -> Looked
     requires { ⌜ count ≤ 512 ⌝ }
-    ensures { λ r. ⌜ r ≡ allTo (λ i. entryOk (entryAt register i)) count ⌝ }
+    ensures { λ r. ⌜ EntriesAt register count (r .sound) (r .words) ⌝ }
 {
+    let mut words = [0u32; 512];
     let mut i = 0;
     while i < count {
         let e = register.entries[i];
         if !entry_ok(e) {
-            return false;
+            return Looked {
+                sound: false,
+                words,
+            };
         }
+        let w = word_of(e);
+        words[i] = w;
         i += 1;
     }
-    true
+    Looked { sound: true, words }
 }
 
 // Looks through a register.
@@ -83,13 +88,11 @@ pub fn look(register: Register) -> Looked
             words: [0u32; 512],
         };
     }
-    if !entries_ok(register, count) {
-        return Looked {
-            sound: false,
-            words: [0u32; 512],
-        };
+    let looked = look_entries(register, count);
+    if !looked.sound {
+        return looked;
     }
-    let words = words_of(register, count);
+    let words = looked.words;
     let sound = distinct(register, &words, count);
     Looked { sound, words }
 }

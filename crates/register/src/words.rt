@@ -33,23 +33,6 @@ pub fn word_of(e: Entry) -> u32
     word(e.customer, &key[..n])
 }
 
-// The words of the first `count` entries.
-pub fn words_of(register: Register, count: usize) -> [u32; 512]
-    requires { ⌜ count ≤ 512 ⌝ }
-    requires { ⌜ Short register count ⌝ }
-    ensures { λ r. ⌜ WordsOf register count r ⌝ }
-{
-    let mut words = [0u32; 512];
-    let mut i = 0;
-    while i < count {
-        let e = register.entries[i];
-        let w = word_of(e);
-        words[i] = w;
-        i += 1;
-    }
-    words
-}
-
 // The place of an entry's customer and key among the first n; n where they are not there.
 pub fn place_of(register: Register, words: &[u32; 512], n: usize, e: Entry, w: u32) -> usize
     requires { ⌜ (n ≤ 512) × (e .length ≤ 32) × (w ≡ wordOf e) ⌝ }
