@@ -1,15 +1,23 @@
--- Laws for a function that takes a struct whole out of a reference, hands it to a covered step by value, and stores back whole what the step returns.
--- What the function asks of its other parameters is what the step asks of them, and what the step says of their last values is what the function says: they are handed on as they came, and nothing is said of each.
---     Known R          a type whose machine value is a function of the denotation, as a parameter's is.        Data R     it owns only facts besides, as the struct does, and what a step returns
---     Params T         `Known` for each parameter.        vals     their machine values
---     meets            a walk at each choice of lifetimes, shares and arguments meets the contract. It begins at what the first parameter owns, what the others own, the first lifetime's token and the others'. It is for a contract with no `requires`
---     opens-whole, closes-whole    a `&mut` is opened for its one cell, and closed at another value.        looks-whole, shuts-whole     the same of a `&`, which is shut at what it was
---     passes, passes-on    what the step asks, with the struct for its first parameter, and without
---     asks             the step is called. What it returns has its machine value written out, and its last values and its clause are had
---     copied, behind, first-of, second-of, start-of, lent-on, stores, stores-back      the operands and the assignments of such a function
---     stands           where a local stands.        frees      a local that holds a value is freed
---     ends, hands      the walk ends at what the step has handed back.        follows, besides     where the function's clause follows from the step's, or says more.        alike      what is read of two that are the same is the same
--- All but the definitions take `Given`.
+-- Laws for a function that takes a struct whole out of a reference, hands it to a covered step by value, and stores back whole what
+-- the step returns. Its other parameters are handed on as they came: what the function asks of them is what the step asks, and what
+-- the step says of their last values is what the function says. All but the definitions and `alike` take `Given`.
+--     Known R                      a type whose machine value is a function of the denotation, as a parameter's is
+--     Data R                       it owns only facts besides, as the struct does, and what a step returns
+--     Params T, vals               `Known` for each parameter, and their machine values
+--     meets                        a walk at each choice of lifetimes, shares and arguments meets the contract, which has no
+--                                  `requires`. It begins at what the first parameter owns, what the others own, the first
+--                                  lifetime's token and the others'
+--     opens-whole, closes-whole    a `&mut` is opened for its one cell, and closed at another value
+--     looks-whole, shuts-whole     the same of a `&`, which is shut at what it was
+--     passes, passes-on            what the step asks, with the struct for its first parameter, and without
+--     asks                         the step is called: what it returns has its machine value written out, and its last values and
+--                                  its clause are had
+--     copied, behind, first-of, second-of, start-of, lent-on      the operands of such a function
+--     stores, stores-back          its assignments
+--     stands, frees                where a local stands; one that holds a value is freed
+--     ends, hands                  the walk ends at what the step has handed back
+--     follows, besides             where the function's clause follows from the step's, or says more
+--     alike                        what is read of two that are the same is the same
 use mathlib.Core.Path.{_≡_, refl, sym, subst, ap}
 use Prim.Native.Nat.{ℕ, zero, suc, _+_, _-_, _*_}
 use mathlib.Core.Option as Opt

@@ -1,5 +1,6 @@
--- `desk::registers::bill` meets its contract: a walk of its MIR, by hand. The borrow is opened, the register is copied whole, `enter` is called on the copy, the register that it returns is stored back whole, and the borrow is closed there. All that the proof knows of `enter` is that it meets its contract.
--- Assumes nothing.
+-- `desk::registers::bill` meets its contract: a walk of its MIR, by hand. The borrow is opened, the register is copied whole,
+-- `enter` is called on the copy, the register that it returns is stored back whole, and the borrow is closed there. All that the
+-- proof knows of `enter` is that it meets its contract. Assumes nothing.
 use mathlib.Core.Path.{_≡_, refl}
 use Prim.Native.Nat.{ℕ, _+_}
 use mathlib.Core.List.{[], _∷_}

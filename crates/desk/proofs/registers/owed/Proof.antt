@@ -1,4 +1,5 @@
--- `desk::registers::owed` meets its contract: a walk of its MIR, by hand. The register is looked into and copied whole, the borrow is shut, and `owed_by` is called on the copy. All that the proof knows of `owed_by` is that it meets its contract.
+-- `desk::registers::owed` meets its contract: a walk of its MIR, by hand. The register is looked into and copied whole, the
+-- borrow is shut, and `owed_by` is called on the copy. All that the proof knows of `owed_by` is that it meets its contract.
 -- Assumes nothing.
 use mathlib.Core.Path.{refl}
 use Prim.Native.Nat.{ℕ, _+_}

@@ -1,6 +1,7 @@
--- `desk_c::registers::imbrolt_bill` meets its contract: a walk of its MIR, by hand. The borrow is opened, the register is copied whole, `bill_given` is called on the copy and on `out`, the register that it returns is stored back whole, and the borrow is closed there. All that the proof knows of `bill_given` is that it meets its contract.
--- `out` is passed on at its own lifetime, share and name: what `bill_given` says of its last list is what is said here.
--- Assumes nothing.
+-- `desk_c::registers::imbrolt_bill` meets its contract: a walk of its MIR, by hand. The borrow is opened, the register is copied
+-- whole, `bill_given` is called on the copy and on `out`, the register that it returns is stored back whole, and the borrow is
+-- closed there. All that the proof knows of `bill_given` is that it meets its contract. `out` is passed on at its own lifetime,
+-- share and name: what `bill_given` says of its last list is what is said here. Assumes nothing.
 use mathlib.Core.Path.{refl}
 use Prim.Native.Nat.{ℕ, _+_}
 use mathlib.Core.List.{[], _∷_}

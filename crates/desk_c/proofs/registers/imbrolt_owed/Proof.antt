@@ -1,6 +1,7 @@
--- `desk_c::registers::imbrolt_owed` meets its contract: a walk of its MIR, by hand. The register is looked into and copied whole, the borrow is shut, and `owed_given` is called on the copy and on `out`. All that the proof knows of `owed_given` is that it meets its contract.
--- `out` is passed on at its own lifetime, share and name: what `owed_given` says of its last list is what is said here.
--- Assumes nothing.
+-- `desk_c::registers::imbrolt_owed` meets its contract: a walk of its MIR, by hand. The register is looked into and copied whole,
+-- the borrow is shut, and `owed_given` is called on the copy and on `out`. All that the proof knows of `owed_given` is that it
+-- meets its contract. `out` is passed on at its own lifetime, share and name: what `owed_given` says of its last list is what is
+-- said here. Assumes nothing.
 use mathlib.Core.Path.{refl}
 use Prim.Native.Nat.{ℕ, _+_}
 use mathlib.Core.List.{[], _∷_}

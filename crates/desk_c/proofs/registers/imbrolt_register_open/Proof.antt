@@ -1,5 +1,6 @@
--- `desk_c::registers::imbrolt_register_open` meets its contract: a walk of its MIR, by hand. `open_register` is called, the borrow is opened, the register that was returned is stored whole, and the borrow is closed there. All that the proof knows of `open_register` is that it meets its contract.
--- Assumes nothing.
+-- `desk_c::registers::imbrolt_register_open` meets its contract: a walk of its MIR, by hand. `open_register` is called, the
+-- borrow is opened, the register that was returned is stored whole, and the borrow is closed there. All that the proof knows of
+-- `open_register` is that it meets its contract. Assumes nothing.
 use mathlib.Core.Path.{_≡_, refl}
 use Prim.Native.Nat.{ℕ, _+_}
 use mathlib.Core.List.{[], _∷_}

@@ -2,6 +2,7 @@
 -- Assumes nothing.
 use borrow.Author.Needs.{needs}
 use mathlib.Core.Path.{_≡_}
+use native.Mathlib.Omega.{arith}
 use Rattle.register.specs.Entries.{Call, callOf}
 use Rattle.door.specs.Registers.{BillFits, callGiven}
 use Rattle.door.proofs.Bills.{bill-fits, call-given, gave-short, gave-room}
@@ -54,7 +55,7 @@ returns c =
     let t = c .before .before .before .before in
     let s = t .before .before .before .before .before .before in
     let g = c .before .give-billed in
-    gave-short (s .args .register) (asked s) (entered t) (t .enter .result .billed) (g .result) (s .args .out .now) (g .last .0) (call t) (t .enter .ensures .0) (g .ensures) (c .before .before .before .if1 .taken)
+    gave-short (s .args .register) (asked s) (entered t) (t .enter .result .billed) (g .result) (s .args .out .now) (g .last .0) (call t) (t .enter .ensures .0) (g .ensures) (omega (arith, c .before .before .before .if1 .taken))
 
 give-billed-requires-2 : tie.Need-give-billed-requires-2
 give-billed-requires-2 c κs = fits (c .before .before .before)
@@ -68,7 +69,7 @@ returns-2 c =
     let s = t .before .before .before .before .before .before in
     let g = c .before .give-billed2 in
     gave-room (s .args .register) (asked s) (entered t) (t .enter .result .billed) (g .result) (s .args .out .now) (g .last .0) (call t) (t .enter .ensures .0) (g .ensures)
-    (t .enter .result .register) (t .enter .ensures .1) (c .before .before .before .before .if1 .left)
+    (t .enter .result .register) (t .enter .ensures .1) (omega (arith, c .before .before .before .before .if1 .left))
 
 pub bill-given-spec : {M : Type 1} → statement M
 bill-given-spec =
