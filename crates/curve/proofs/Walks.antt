@@ -23,9 +23,13 @@ pub all-none : (ok : ℕ → Bool) → allTo ok 0 ≡ true
 unfolding allTo
 all-none ok = refl
 
+pub all-suc : (ok : ℕ → Bool) (n : ℕ) → allTo ok (n + 1) ≡ allTo ok n && ok n
+unfolding allTo
+all-suc ok n = ap (allTo ok) (add-one n)
+
 pub all-more : (ok : ℕ → Bool) (n : ℕ) → allTo ok n ≡ true → ok n ≡ true → allTo ok (n + 1) ≡ true
 unfolding allTo
-all-more ok n a b = ap (allTo ok) (add-one n) ∙ ap₂ _&&_ a b
+all-more ok n a b = all-suc ok n ∙ ap₂ _&&_ a b
 
 pub all-fails : (ok : ℕ → Bool) (n i : ℕ) → i < n → ok i ≡ false → allTo ok n ≡ false
 unfolding allTo

@@ -5,7 +5,7 @@ use quantity::Tenths;
 use quantity::signed::above;
 use quantity::signed::below;
 ghost use mathlib.Core.Path.{_≡_};
-ghost use mathlib.Core.Bool.{true};
+ghost use mathlib.Core.Bool.{true, _&&_};
 ghost use Prim.Native.Nat.{ℕ, _≤_, _<_};
 ghost use lib.ListN.{getD};
 ghost use Rattle.laws.specs.Sums.{sumTo};
@@ -21,20 +21,29 @@ pub struct Accepted {
     pub shifts: u32,
 }
 
-// Whether the first `bands` values of the set are all in range.
+fn both(a: bool, b: bool) -> bool
+    ensures { λ r. ⌜ r ≡ a && b ⌝ }
+{
+    if a {
+        return b;
+    }
+    false
+}
+
+// Whether the first `bands` values of the set are all in range. Without a way out of the loop, so that several are looked at at
+// once.
 pub fn all_in_range(set: BandSet, bands: usize) -> bool
     requires { ⌜ bands ≤ 16 ⌝ }
     ensures { λ r. ⌜ r ≡ accepted set bands ⌝ }
 {
+    let mut all = true;
     let mut i = 0;
     while i < bands {
         let value = set.values[i];
-        if !value.in_range() {
-            return false;
-        }
+        all = both(all, value.in_range());
         i += 1;
     }
-    true
+    all
 }
 
 // The level of one band.

@@ -1,25 +1,25 @@
--- `curve::levels::all_in_range` meets its contract. The invariant: the bands passed are in range. Assumes nothing.
-use mathlib.Core.Path.{_≡_, sym, _∙_, ap}
-use mathlib.Core.Bool.{true}
+-- `curve::levels::all_in_range` meets its contract. The invariant: the answer so far is that of the bands passed. Assumes
+-- nothing.
+use mathlib.Core.Path.{_≡_, sym, _∙_, ap, ap₂}
+use mathlib.Core.Bool.{_&&_}
 use Prim.Native.Nat.{_-_, _≤_}
 use native.Mathlib.Omega.{arith}
 use borrow.Author.Needs.{needs}
-use borrow.Author.Tests.{not-true, not-false}
 use Rattle.quantity.specs.Quantities.{inRange, bandOf}
 use Rattle.curve.specs.Bands.{accepted}
-use Rattle.curve.proofs.Walks.{all-none, all-more, all-fails}
+use Rattle.curve.proofs.Walks.{all-none, all-suc}
 use Rattle.curve.proofs.levels.all_in_range.Statement.{statement}
 use Rattle.curve.proofs.levels.all_in_range.Tie as tie
 
 abbrev Inv-loop : tie.InvT-loop
-Inv-loop bands set i₀ i = (i ≤ bands) × (accepted set i ≡ true)
+Inv-loop bands set all₀ i₀ all i = (i ≤ bands) × (all ≡ accepted set i)
 
 abbrev μ-loop : tie.MeasureT-loop
-μ-loop bands set i₀ i = bands - i
+μ-loop bands set all₀ i₀ all i = bands - i
 
 loop-holds : tie.Need-loop-holds Inv-loop μ-loop
 unfolding accepted
-loop-holds c = (omega arith, all-none (λ i. inRange (bandOf (c .args .t1) i)))
+loop-holds c = (omega arith, sym (all-none (λ i. inRange (bandOf (c .args .t1) i))))
 
 mul-value : tie.Need-mul-value Inv-loop μ-loop
 mul-value c = omega arith
@@ -30,11 +30,8 @@ element-copy-out-value c = omega arith
 in-range-requires : tie.Need-in-range-requires Inv-loop μ-loop
 in-range-requires c κs = search needs
 
-returns : tie.Need-returns Inv-loop μ-loop
-unfolding accepted
-returns c =
-    let b = c .before .before .before .before in
-    sym (all-fails (λ i. inRange (bandOf (b .before .args .t1) i)) (b .before .args .bands) (b .loop .i) (omega arith) (sym (c .before .in-range .ensures) ∙ not-true (c .before .in-range .result) (c .if1 .taken)))
+both-requires : tie.Need-both-requires Inv-loop μ-loop
+both-requires c κs = search needs
 
 add-i : tie.Need-add-i Inv-loop μ-loop
 add-i c = omega arith
@@ -46,13 +43,13 @@ loop-again : tie.Need-loop-again Inv-loop μ-loop
 unfolding accepted
 loop-again c =
     let b = c .before .before .before .before in
-    (omega arith, all-more (λ i. inRange (bandOf (b .before .args .t1) i)) (b .loop .i) (b .loop .inv .1) (sym (c .before .in-range .ensures) ∙ not-false (c .before .in-range .result) (c .if1 .left)))
+    (omega arith, c .both .ensures ∙ ap₂ _&&_ (b .loop .inv .1) (c .before .in-range .ensures) ∙ sym (all-suc (λ i. inRange (bandOf (b .before .args .t1) i)) (b .loop .i)))
 
-returns-2 : tie.Need-returns-2 Inv-loop μ-loop
-returns-2 c =
+returns : tie.Need-returns Inv-loop μ-loop
+returns c =
     let b = c .before in
     let e : b .loop .i ≡ b .before .args .bands = omega arith in
-    sym (ap (accepted (b .before .args .t1)) (sym e) ∙ b .loop .inv .1)
+    b .loop .inv .1 ∙ ap (accepted (b .before .args .t1)) e
 
 pub all-in-range-spec : {M : Type 1} → statement M
 all-in-range-spec =
@@ -64,8 +61,8 @@ all-in-range-spec =
     mul-value
     element-copy-out-value
     in-range-requires
-    returns
+    both-requires
     add-i
     loop-less
     loop-again
-    returns-2)
+    returns)
