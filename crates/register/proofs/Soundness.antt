@@ -1,6 +1,6 @@
 -- What makes an entry and a register sound: each test of the code in order, and what a sound register says of its entries.
 -- Assumes nothing.
-use mathlib.Core.Path.{_≡_, refl, sym, _∙_, ap, subst⁻¹}
+use mathlib.Core.Path.{_≡_, refl, sym, _∙_, ap}
 use mathlib.Core.Bool.{Bool, true, false, _&&_, not}
 use mathlib.Core.List.{List}
 use Prim.Native.Nat.{ℕ, _+_, _≤_, _<_}
@@ -31,7 +31,7 @@ use Rattle.register.specs.declared.entries.Register.{Register}
 use Rattle.register.specs.declared.totals.Owed.the-variants as owed
 use Rattle.register.specs.Entries.{keyOf, setOf, sameKey, isSheet, ratable, keyed, entryOk}
 use Rattle.register.specs.Registers.{entryAt, repeated, sound, priceFor, totalIn, owedOf}
-use Rattle.register.specs.Words.{Short, WordsOf, EntriesAt, LookedAt}
+use Rattle.register.specs.Words.{Short, WordsOf, LookedAt}
 use Rattle.register.proofs.Tests.{any-found}
 use Rattle.register.proofs.Texts.{key-sym}
 
@@ -109,13 +109,10 @@ module _ (r : Register) (words : List ℕ) where
         each = λ s. w;
       }
 
-  -- by what was seen of its entries
-  pub looked-off : (good : Bool) → good ≡ false → EntriesAt r (r .count) good words → LookedAt r good words
-  looked-off good e a = subst⁻¹ (λ (b : Bool). LookedAt r b words) e (looked-bad (sym (a .right) ∙ e))
-
-  pub looked-on : (good whole : Bool) → good ≡ true → r .count ≤ 512 → EntriesAt r (r .count) good words
-      → whole ≡ allTo (λ i. not (repeated r i)) (r .count) → LookedAt r whole words
-  looked-on good whole e h a d = looked whole h (sym (a .right) ∙ e) d (a .each e)
+  pub looked-twice : allTo (λ i. not (repeated r i)) (r .count) ≡ false → LookedAt r false words
+  unfolding sound
+  looked-twice h =
+      fails (right-fails (leb (r .count) 512) (sym (right-fails (allTo (λ i. entryOk (entryAt r i)) (r .count)) h)))
 
 -- ---- what a sound register is
 module _ (r : Register) (h : sound r ≡ true) where

@@ -4,10 +4,10 @@ use mathlib.Core.Path.{_≡_}
 use mathlib.Core.Bool.{Bool, true, false}
 use Prim.Native.Nat.{ℕ, zero, suc, _+_, _*_, _%_, _≤_, _<_}
 use lib.ListN.{length, getD}
-use Rattle.curve.specs.Bands.{allTo, anyTo}
+use Rattle.curve.specs.Bands.{anyTo}
 use Rattle.register.specs.declared.entries.Entry.{Entry}
 use Rattle.register.specs.declared.entries.Register.{Register}
-use Rattle.register.specs.Entries.{keyOf, sameKey, entryOk}
+use Rattle.register.specs.Entries.{keyOf, sameKey}
 use Rattle.register.specs.Registers.{entryAt, sound}
 
 -- the word of a customer and the first n bytes of a key
@@ -31,11 +31,6 @@ pub record PlaceOf (r : Register) (n : ℕ) (e : Entry) (at : ℕ) : Type 0 wher
   pub within : at ≤ n
   pub found : at < n → sameKey (entryAt r at) e ≡ true
   pub missed : n ≤ at → anyTo (λ i. sameKey (entryAt r i) e) n ≡ false
-
--- the first n entries looked through: whether each could have been made by a call, and then their words
-pub record EntriesAt (r : Register) (n : ℕ) (good : Bool) (words : List ℕ) : Type 0 where
-  pub right : good ≡ allTo (λ i. entryOk (entryAt r i)) n
-  pub each : good ≡ true → WordsOf r n words
 
 -- a register looked through: whether it is sound, and the words of its entries where it is
 pub record LookedAt (r : Register) (whole : Bool) (words : List ℕ) : Type 0 where

@@ -3,7 +3,7 @@
 use crate::entries::Entry;
 use crate::entries::Register;
 use crate::entries::set_of;
-use crate::words::distinct;
+use crate::words::place_of;
 use crate::words::word_of;
 use curve::levels::all_in_range;
 use quantity::is_key_of;
@@ -11,10 +11,9 @@ use rating::Named;
 use rating::bands_of;
 use rating::kind_of;
 ghost use mathlib.Core.Path.{_≡_};
-ghost use Prim.Native.Nat.{_≤_};
 ghost use Rattle.rating.specs.Kinds.{kindOf};
 ghost use Rattle.register.specs.Entries.{ratable, keyed, entryOk};
-ghost use Rattle.register.specs.Words.{EntriesAt, LookedAt};
+ghost use Rattle.register.specs.Words.{LookedAt};
 
 // Whether a register is sound, and the words of its entries where it is.
 pub struct Looked {
@@ -55,12 +54,20 @@ fn entry_ok(e: Entry) -> bool
     is_keyed(e)
 }
 
-// Looks through the first `count` entries, one by one.
-fn look_entries(register: Register, count: usize) -> Looked
-    requires { ⌜ count ≤ 512 ⌝ }
-    ensures { λ r. ⌜ EntriesAt register count (r .sound) (r .words) ⌝ }
+// Looks through a register, in one pass: each entry is tested, its word is taken, and where the remainder of the word was met
+// before, its customer and key are sought among the entries before it.
+pub fn look(register: Register) -> Looked
+    ensures { λ r. ⌜ LookedAt register (r .sound) (r .words) ⌝ }
 {
+    let count = register.count;
     let mut words = [0u32; 512];
+    if 512 < count {
+        return Looked {
+            sound: false,
+            words,
+        };
+    }
+    let mut met = [0u8; 16384];
     let mut i = 0;
     while i < count {
         let e = register.entries[i];
@@ -71,28 +78,18 @@ fn look_entries(register: Register, count: usize) -> Looked
             };
         }
         let w = word_of(e);
+        let slot = (w % 16384) as usize;
+        if met[slot] == 1 {
+            if place_of(register, &words, i, e, w) < i {
+                return Looked {
+                    sound: false,
+                    words,
+                };
+            }
+        }
+        met[slot] = 1;
         words[i] = w;
         i += 1;
     }
     Looked { sound: true, words }
-}
-
-// Looks through a register.
-pub fn look(register: Register) -> Looked
-    ensures { λ r. ⌜ LookedAt register (r .sound) (r .words) ⌝ }
-{
-    let count = register.count;
-    if 512 < count {
-        return Looked {
-            sound: false,
-            words: [0u32; 512],
-        };
-    }
-    let looked = look_entries(register, count);
-    if !looked.sound {
-        return looked;
-    }
-    let words = looked.words;
-    let sound = distinct(register, &words, count);
-    Looked { sound, words }
 }

@@ -3,12 +3,9 @@
 use crate::entries::Entry;
 use crate::entries::Register;
 use crate::entries::same_key;
-ghost use mathlib.Core.Bool.{not};
 ghost use mathlib.Core.Path.{_≡_};
 ghost use Prim.Native.Nat.{_≤_};
 ghost use lib.ListN.{length};
-ghost use Rattle.curve.specs.Bands.{allTo};
-ghost use Rattle.register.specs.Registers.{repeated};
 ghost use Rattle.register.specs.Words.{wordTo, wordOf, WordsOf, PlaceOf, Short};
 
 fn word(customer: u64, key: &[u8]) -> u32
@@ -51,28 +48,4 @@ pub fn place_of(register: Register, words: &[u32; 512], n: usize, e: Entry, w: u
         i += 1;
     }
     n
-}
-
-// Whether no two of the first `count` entries have one customer and key. `met` tells which remainders of words were met.
-pub fn distinct(register: Register, words: &[u32; 512], count: usize) -> bool
-    requires { ⌜ count ≤ 512 ⌝ }
-    requires { ⌜ Short register count ⌝ }
-    requires { ⌜ WordsOf register count (now words) ⌝ }
-    ensures { λ r. ⌜ r ≡ allTo (λ i. not (repeated register i)) count ⌝ }
-{
-    let mut met = [0u8; 16384];
-    let mut i = 0;
-    while i < count {
-        let w = words[i];
-        let slot = (w % 16384) as usize;
-        if met[slot] == 1 {
-            let e = register.entries[i];
-            if place_of(register, words, i, e, w) < i {
-                return false;
-            }
-        }
-        met[slot] = 1;
-        i += 1;
-    }
-    true
 }

@@ -1,43 +1,144 @@
--- `register::sound::look` meets its contract: the count, then each entry, then that no two have one customer and key. Assumes
--- nothing.
-use mathlib.Core.Path.{_≡_, sym, _∙_}
-use mathlib.Core.Bool.{true}
+-- `register::sound::look` meets its contract. The invariant: the entries passed are sound, the words so far are theirs, none of
+-- them is repeated, and the remainders of their words were met. Assumes nothing.
+use Prim.Native.Nat.{ℕ, _-_, _≤_}
+use mathlib.Core.Path.{_≡_, refl, sym, _∙_, ap}
+use mathlib.Core.Bool.{true, not}
+use mathlib.Core.Logic.{⊎-elim}
+use native.Mathlib.Omega.{arith}
 use borrow.Author.Needs.{needs}
 use borrow.Author.Tests.{not-true, not-false}
-use Rattle.register.proofs.Soundness.{shorts, looked-many, looked-off, looked-on}
+use Rattle.laws.proofs.Lists.{Agreed, agreed-none, agreed-set}
+use Rattle.curve.specs.Bands.{allTo}
+use Rattle.curve.proofs.Walks.{all-none, all-more, all-fails}
+use Rattle.register.specs.Entries.{entryOk}
+use Rattle.register.specs.Registers.{entryAt, repeated}
+use Rattle.register.specs.Words.{wordOf}
+use Rattle.register.proofs.Places.{Met, met-none, met-apart, met-more, repeated-fails}
+use Rattle.register.proofs.Soundness.{ok-short, shorts, looked-many, looked-bad, looked-twice, looked}
 use Rattle.register.proofs.sound.look.Statement.{statement}
 use Rattle.register.proofs.sound.look.Tie as tie
 
-returns : tie.Need-returns
-returns c = looked-many (c .before .args .register) _ (c .if1 .taken)
+abbrev Inv-loop : tie.InvT-loop
+Inv-loop register count words₀ met₀ i₀ words met i =
+    (i ≤ count) × (allTo (λ j. entryOk (entryAt register j)) i ≡ true) × Agreed 0 (λ j. wordOf (entryAt register j)) 512 words i × Met register met i
 
-look-entries-requires : tie.Need-look-entries-requires
-look-entries-requires c κs = search needs
+abbrev μ-loop : tie.MeasureT-loop
+μ-loop register count words₀ met₀ i₀ words met i = count - i
 
-returns-2 : tie.Need-returns-2
+returns : tie.Need-returns Inv-loop μ-loop
+returns c = looked-many (c .before .args .t1) _ (c .if1 .taken)
+
+loop-holds : tie.Need-loop-holds Inv-loop μ-loop
+loop-holds c =
+    let r = c .before .args .t1 in
+    (omega arith, all-none _, agreed-none 0 (λ j. wordOf (entryAt r j)) 512 _ refl, met-none r _ refl)
+
+mul-e : tie.Need-mul-e Inv-loop μ-loop
+mul-e c = omega arith
+
+element-copy-out-e : tie.Need-element-copy-out-e Inv-loop μ-loop
+element-copy-out-e c = omega arith
+
+entry-ok-requires : tie.Need-entry-ok-requires Inv-loop μ-loop
+entry-ok-requires c κs = search needs
+
+returns-2 : tie.Need-returns-2 Inv-loop μ-loop
 returns-2 c =
-    let l = c .before .before .look-entries in
-    looked-off (c .before .before .before .before .args .register) (l .result .words) (l .result .sound) (not-true (l .result .sound) (c .if2 .taken)) (l .ensures)
+    let b = c .before .before .before .before in
+    let r = b .before .before .args .t1 in
+    looked-bad r (b .loop .words)
+    (all-fails (λ j. entryOk (entryAt r j)) (r .count) (b .loop .i) (omega arith) (sym (c .before .entry-ok .ensures) ∙ not-true (c .before .entry-ok .result) (c .if2 .taken)))
 
--- the entries of a register that is looked through further are good
-good : (c : tie.Else2) → c .before .before .look-entries .result .sound ≡ true
-good c = not-false (c .before .before .look-entries .result .sound) (c .if2 .left)
+-- an entry that is looked at further is sound
+good : (c : tie.Else2 Inv-loop μ-loop)
+    → entryOk (entryAt (c .before .before .before .before .before .before .args .t1) (c .before .before .before .before .loop .i)) ≡ true
+good c = sym (c .before .entry-ok .ensures) ∙ not-false (c .before .entry-ok .result) (c .if2 .left)
 
-distinct-requires : tie.Need-distinct-requires
-distinct-requires c κs =
-    let b = c .before .before in
-    let l = b .before .before .look-entries in
-    let s = b .before .before .before in
-    let r = s .before .args .register in
-    (s .if1 .left, (shorts r (r .count) (sym (l .ensures .right) ∙ good b), l .ensures .each (good b)))
+word-of-requires : tie.Need-word-of-requires Inv-loop μ-loop
+word-of-requires c κs =
+    let b = c .before .before .before .before in
+    ok-short (entryAt (b .before .before .args .t1) (b .loop .i)) (good c)
 
-returns-3 : tie.Need-returns-3
+cast-slot : tie.Need-cast-slot Inv-loop μ-loop
+cast-slot c = omega arith
+
+array-read-if3 : tie.Need-array-read-if3 Inv-loop μ-loop
+array-read-if3 c = omega arith
+
+place-of-requires : tie.Need-place-of-requires Inv-loop μ-loop
+place-of-requires c κs =
+    let d = c .before .before .before in
+    let b = d .before .before .before .before in
+    let r = b .before .before .args .t1 in (
+      (omega arith, ok-short (entryAt r (b .loop .i)) (good d), c .before .before .word-of .ensures),
+      (shorts r (b .loop .i) (b .loop .inv .1), λ j h. b .loop .inv .2 .same j h),
+    )
+
+returns-3 : tie.Need-returns-3 Inv-loop μ-loop
 returns-3 c =
-    let b = c .before .before .before in
-    let l = b .before .before .look-entries in
-    let s = b .before .before .before in
-    looked-on (s .before .args .register) (l .result .words) (l .result .sound) (c .distinct .result) (good b) (s .if1 .left) (l .ensures) (c .distinct .ensures)
+    let b = c .before .before .before .before .before .before .before .before .before in
+    let r = b .before .before .args .t1 in
+    looked-twice r (b .loop .words)
+    (sym (repeated-fails r (r .count) (b .loop .i) (c .before .place-of .result) (omega arith) (c .if4 .taken) (c .before .place-of .ensures)))
+
+array-write-met : tie.Need-array-write-met Inv-loop μ-loop
+array-write-met c = omega arith
+
+mul-words : tie.Need-mul-words Inv-loop μ-loop
+mul-words c = omega arith
+
+array-write-words : tie.Need-array-write-words Inv-loop μ-loop
+array-write-words c = omega arith
+
+add-i : tie.Need-add-i Inv-loop μ-loop
+add-i c = omega arith
+
+loop-less : tie.Need-loop-less Inv-loop μ-loop
+loop-less c = omega arith
+
+loop-again : tie.Need-loop-again Inv-loop μ-loop
+loop-again c =
+    let d = c .before .before in
+    let b = d .before .before .before .before in
+    let r = b .before .before .args .t1 in
+    let w = c .before .word-of in (
+      omega arith,
+      all-more (λ j. entryOk (entryAt r j)) (b .loop .i) (b .loop .inv .1) (good d),
+      agreed-set 0 (λ j. wordOf (entryAt r j)) 512 (b .loop .words) (b .loop .i) (w .result) (omega arith) (w .ensures) (b .loop .inv .2),
+      met-more r (b .loop .met) (b .loop .i) (w .result) (w .ensures) (b .loop .inv .3)
+          (⊎-elim (λ u. u .2 .ensures .missed (u .3 .left)) (λ u. met-apart r (b .loop .met) (b .loop .i) _ (w .ensures) (b .loop .inv .3) (u .left)) (c .if3 .came)),
+    )
+
+returns-4 : tie.Need-returns-4 Inv-loop μ-loop
+returns-4 c =
+    let b = c .before in
+    let r = b .before .before .args .t1 in
+    let e : b .loop .i ≡ r .count = omega arith in
+    looked r (b .loop .words) true (b .before .if1 .left) (ap (λ (n : ℕ). allTo (λ j. entryOk (entryAt r j)) n) (sym e) ∙ b .loop .inv .1)
+    (sym (ap (λ (n : ℕ). allTo (λ j. not (repeated r j)) n) (sym e) ∙ b .loop .inv .3 .fresh))
+    (λ j h. b .loop .inv .2 .same j (omega arith))
 
 pub look-spec : {M : Type 1} → statement M
 look-spec =
-    tie.close (tie.spec returns look-entries-requires returns-2 distinct-requires returns-3)
+    tie.close
+    (tie.spec
+    Inv-loop
+    μ-loop
+    returns
+    loop-holds
+    mul-e
+    element-copy-out-e
+    entry-ok-requires
+    returns-2
+    word-of-requires
+    cast-slot
+    array-read-if3
+    place-of-requires
+    returns-3
+    array-write-met
+    mul-words
+    array-write-words
+    add-i
+    loop-less
+    loop-again
+    returns-4)
