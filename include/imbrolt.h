@@ -289,7 +289,7 @@ typedef struct imbrolt_entry {
  * of the same byte order. Entries from the count on do not matter. Whatever bytes are read back, a
  * call answers as for a register that calls left, or with IMBROLT_REGISTER_DAMAGED.
  *
- * No call takes NULL for a register. A call on a register takes up to 480 KB of stack. */
+ * No call takes NULL for a register. A thread that calls on one needs 512 KB of stack. */
 typedef struct imbrolt_register {
     imbrolt_entry entries[IMBROLT_REGISTER_ENTRIES];
     uint64_t count;
