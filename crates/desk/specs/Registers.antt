@@ -14,5 +14,5 @@ unfoldable pub use Rattle.register.specs.Registers.{known, held, placeDue, dueO
 -- a customer's total
 unfoldable pub use Rattle.register.specs.Registers.{priceFor, totalIn, owedOf}
 -- "over any sequence of calls since the register was opened empty": histories and their sums
-pub use Rattle.register.specs.Histories.{History, accepted, charge, sameCaller, Calls, Again, SameEntry, SameRegister, CouldBeLeft, Full}
-unfoldable pub use Rattle.register.specs.Histories.{used, total, charged, onward, left, told}
+pub use Rattle.register.specs.Histories.{History, accepted, charge, sameCaller, adds, Calls, Again, SameEntry, SameRegister, CouldBeLeft, Full}
+unfoldable pub use Rattle.register.specs.Histories.{used, total, keys, charged, onward, left, told}

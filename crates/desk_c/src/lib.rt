@@ -1,8 +1,9 @@
 // The calls of `desk` for C, Rust and others, on numbers, slices of numbers and a register (include/imbrolt.h).
 //
 // Each function returns 0 or the refusal's number. Its answer goes to a lent array, from the array's start; places past the
-// answer keep their contents, and on a refusal the whole array and the register do. A lent array that is too small is refusal 10, tested
-// last. The promise of each says what it returns and what every lent array holds afterwards, for all inputs.
+// answer keep their contents, and on a refusal the whole array and the register do. A lent array that is too small is refusal
+// 10, tested last. The promise of each says what it returns and what every lent array and register holds afterwards, for all
+// inputs.
 mod lifts;
 mod lines;
 mod measured;
