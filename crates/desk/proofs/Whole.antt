@@ -62,8 +62,8 @@ use denote.Triple.Entry.{Args, Vals, Res, alive, onEntry}
 use denote.Triple.Spec.{tripleOf, Meets}
 use denote.Triple.Clauses.{Ended, Clauses, Lasts, atExit, lasts, closing}
 use denote.Triple.Call.{calls-at}
-use Rattle.register.proofs.entries.Register as Reg
-use Rattle.register.proofs.entries.Register.Laws as Reg′
+use Rattle.register.proofs.registers.Register as Reg
+use Rattle.register.proofs.registers.Register.Laws as Reg′
 
 -- ---- the types
 pub record Known (R : RattleType) : Type 2 where

@@ -23,5 +23,6 @@ pub use ratings::rate;
 pub use ratings::rate_readings;
 pub use ratings::take_reading;
 pub use registers::bill;
+pub use registers::close;
 pub use registers::open_register;
 pub use registers::owed;

@@ -1,5 +1,7 @@
-// The register of request keys, updated where it stands in the caller's memory (document 02, (x)). `bill` and `owed` are of one
-// form: the register is taken from there whole and handed to a step by value; `bill` puts back what the step leaves of it.
+// The register of request keys, updated where it stands in the caller's memory (document 02, (x) and (xi)). `bill`, `owed` and
+// `close` are of one form: the register is taken from there whole and handed to a step by value; `bill` and `close` put back what
+// the step leaves of it.
+use ledger::close_for;
 use quantity::BandSet;
 use quantity::Fen;
 use rating::Kind;
@@ -10,7 +12,7 @@ use register::enter;
 use register::owed_by;
 ghost use mathlib.Core.Path.{_≡_};
 ghost use Rattle.desk.specs.Answers.{billedAnswer, owedAnswer};
-ghost use Rattle.desk.specs.Registers.{opened, callOf, billedOf, afterOf, owedOf};
+ghost use Rattle.desk.specs.Registers.{opened, callOf, billedOf, afterOf, owedOf, closedOf};
 
 // A register without entries.
 pub fn open_register() -> Register
@@ -45,4 +47,17 @@ pub fn owed(register: &Register, customer: u64) -> Owed
 {
     let whole = *register;
     owed_by(whole, customer)
+}
+
+// A customer's total in fen, handed out: the customer's entries go, and the others move together in their order. Places from the
+// new count up to the old one become zeros, those from there on stay. A customer without entries is handed 0, and nothing
+// changes. Refused with 19, the register unchanged.
+pub fn close(register: &mut Register, customer: u64) -> Owed
+    ensures { λ r. ⌜ owedAnswer r ≡ owedAnswer (owedOf (now (register .entry)) customer) ⌝ }
+    ensures { λ _. ⌜ now (register .exit) ≡ closedOf (now (register .entry)) customer ⌝ }
+{
+    let whole = *register;
+    let step = close_for(whole, customer);
+    *register = step.register;
+    step.owed
 }

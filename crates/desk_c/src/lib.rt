@@ -24,5 +24,6 @@ pub use ratings::imbrolt_rate;
 pub use ratings::imbrolt_rate_readings;
 pub use ratings::imbrolt_reading;
 pub use registers::imbrolt_bill;
+pub use registers::imbrolt_close;
 pub use registers::imbrolt_owed;
 pub use registers::imbrolt_register_open;

@@ -1,13 +1,14 @@
 // The register of request keys, in the caller's memory, in the form of `desk`'s calls: the register is taken from there whole and
 // handed to a step by value, and what the step leaves of it is put back.
 use door::bill_given;
+use door::close_given;
 use door::owed_given;
 use register::Register;
 ghost use mathlib.Core.Path.{_≡_};
 ghost use lib.ListN.{length};
 ghost use Rattle.register.specs.Registers.{opened};
 ghost use Rattle.door.specs.Answers.{returned, held};
-ghost use Rattle.door.specs.Registers.{callGiven, billAnswer, billLeft, owedGiven};
+ghost use Rattle.door.specs.Registers.{callGiven, billAnswer, billLeft, owedGiven, closeLeft};
 
 // A register without entries.
 #[no_mangle]
@@ -49,4 +50,17 @@ pub extern "C" fn imbrolt_owed(register: &Register, customer: u64, out: &mut [i3
 {
     let whole = *register;
     owed_given(whole, customer, out)
+}
+
+// A customer's total, handed out: the customer's entries go.
+#[no_mangle]
+pub extern "C" fn imbrolt_close(register: &mut Register, customer: u64, out: &mut [i32]) -> u32
+    ensures { λ r. ⌜ r ≡ returned (owedGiven (now (register .entry)) customer) (length (now (out .entry))) ⌝ }
+    ensures { λ _. ⌜ now (register .exit) ≡ closeLeft (now (register .entry)) customer (length (now (out .entry))) ⌝ }
+    ensures { λ _. ⌜ now (out .exit) ≡ held (owedGiven (now (register .entry)) customer) (now (out .entry)) ⌝ }
+{
+    let whole = *register;
+    let step = close_given(whole, customer, out);
+    *register = step.register;
+    step.number
 }

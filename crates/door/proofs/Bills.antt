@@ -1,13 +1,16 @@
 -- The register's answers: each fits, each given is the one defined, and the register is left as the room for the answer asks.
 -- Assumes nothing.
 use mathlib.Core.Path.{_≡_, refl, sym, _∙_, ap, subst}
+use mathlib.Core.Bool.{cond}
 use mathlib.Core.List.{List, [], _∷_, _++_}
 use Prim.Native.Nat.{ℕ, _≤_, _<_}
 use native.Mathlib.Omega.{arith}
 use borrow.Author.Tests.{le-leb, lt-leb}
+use lib.Dec.{leb}
 use lib.IntN.{ℤ, pos}
 use lib.ListN.{length, take, set}
 use lib.Seq.{take-suc-set}
+use Rattle.quantity.specs.Answers.{Answer}
 use Rattle.quantity.specs.Answers.Answer.{numbers}
 use Rattle.quantity.specs.declared.quantities.BandSet.{BandSet}
 use Rattle.quantity.specs.declared.quantities.Fen.{Fen}
@@ -16,18 +19,34 @@ use Rattle.rating.specs.declared.kinds.Named.{Named}
 use Rattle.rating.specs.declared.sheets.Sheet.{Sheet}
 use Rattle.rating.specs.Kinds.{kindOf}
 use Rattle.rating.specs.Sheets.{sheetNumbers}
-use Rattle.register.specs.declared.entries.Register.{Register}
+use Rattle.register.specs.declared.registers.Register.{Register}
 use Rattle.register.specs.declared.steps.Billed.{Billed}
 use Rattle.register.specs.declared.steps.Billed.the-variants as billed
 use Rattle.register.specs.declared.totals.Owed.{Owed}
 use Rattle.register.specs.declared.totals.Owed.the-variants as owed
-use Rattle.register.specs.Entries.{Call, callOf}
-use Rattle.register.specs.Registers.{billedOf, afterOf, owedOf, billedAnswer, owedAnswer}
+use Rattle.entry.specs.Entries.{Call, callOf}
+use Rattle.register.specs.Registers.{billedOf, owedOf, billedAnswer, owedAnswer}
 use Rattle.register.proofs.Fits.{bill-by, owed-by}
 use Rattle.door.specs.Answers.{returned, held}
 use Rattle.door.specs.Lists.{setFrom}
-use Rattle.door.specs.Registers.{kindAsked, bandsAsked, callGiven, billAnswer, billLeft, BillFits, OwedFits}
+use Rattle.door.specs.Registers.{kindAsked, bandsAsked, callGiven, BillFits, OwedFits}
 use Rattle.door.proofs.Gives.{Left, given}
+
+-- ---- what a call leaves
+-- its number, the register and the lent array, where its answer is a and its register t
+abbrev pub Gave : Answer ℤ → Register → ℕ → Register → List ℤ → List ℤ → Type 0
+Gave a t n s before after = (n ≡ returned a (length before)) × ((s ≡ t) × (after ≡ held a before))
+
+-- where the array has these places the register is t, else it stays r
+module _ (places : ℕ) (r t : Register) (a b : Answer ℤ) (n : ℕ) (before after : List ℤ) (e : b ≡ a) (l : Left b n before after) where
+  answered : Left a n before after
+  answered = given b a n before after e l
+
+  pub gave-short : length before < places → Gave a (cond (leb places (length before)) t r) n r before after
+  gave-short h = (answered .0, (rw (lt-leb places (length before) h) refl, answered .1))
+
+  pub gave-room : (s : Register) → s ≡ t → places ≤ length before → Gave a (cond (leb places (length before)) t r) n s before after
+  gave-room s g h = (answered .0, (rw (le-leb places (length before) h) g, answered .1))
 
 -- ---- a bill
 pub bill-fits : (r : Register) (x : Call) (b : Billed) → b ≡ billedOf r x → BillFits b
@@ -51,24 +70,6 @@ pub call-given : (customer : ℕ) (key : List ℕ) (kind : ℕ) (values : List �
     → callOf customer key k t price ≡ callGiven customer key kind values marks price
 unfolding callGiven
 call-given customer key kind values marks price n s t k p q u v = rw (v, u, q, p) refl
-
--- what one call leaves: its number, the register and the lent array
-abbrev pub Gave : Register → Call → ℕ → Register → List ℤ → List ℤ → Type 0
-Gave r x n s before after =
-    (n ≡ returned (billAnswer r x) (length before)) × ((s ≡ billLeft r x (length before)) × (after ≡ held (billAnswer r x) before))
-
-module _ (r : Register) (x y : Call) (b : Billed) (n : ℕ) (before after : List ℤ) (e : y ≡ x) (f : b ≡ billedOf r y) (l : Left (billedAnswer b) n before after) where
-  answered : Left (billAnswer r x) n before after
-  unfolding billAnswer
-  answered = given (billedAnswer b) (billAnswer r x) n before after (ap billedAnswer (f ∙ ap (billedOf r) e)) l
-
-  pub gave-short : length before < 7 → Gave r x n r before after
-  unfolding billLeft
-  gave-short h = (answered .0, (rw (lt-leb 7 (length before) h) refl, answered .1))
-
-  pub gave-room : (s : Register) → s ≡ afterOf r y → 7 ≤ length before → Gave r x n s before after
-  unfolding billLeft
-  gave-room s g h = (answered .0, (rw (le-leb 7 (length before) h) (g ∙ ap (afterOf r) e), answered .1))
 
 -- ---- a total
 pub owed-fits : (r : Register) (customer : ℕ) (o : Owed) → o ≡ owedOf r customer → OwedFits o

@@ -14,8 +14,8 @@ use Rattle.rating.specs.declared.kinds.Named.{Named}
 use Rattle.rating.specs.declared.kinds.Named.the-variants.{Unknown}
 use Rattle.rating.specs.Kinds.{kindOf}
 use Rattle.rating.proofs.Rated.{wrong-count}
-use Rattle.register.specs.declared.entries.Register.{Register}
-use Rattle.register.specs.Entries.{callOf}
+use Rattle.register.specs.declared.registers.Register.{Register}
+use Rattle.entry.specs.Entries.{callOf}
 use Rattle.register.specs.Registers.{sound, Due, billedBy, billedOf, billedAnswer}
 use Rattle.register.proofs.Dues.{due-refused}
 use Rattle.door.specs.Lists.{setFrom}

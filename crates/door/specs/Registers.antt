@@ -11,13 +11,14 @@ use Rattle.rating.specs.declared.kinds.Kind.the-variants.{A3}
 use Rattle.rating.specs.declared.kinds.Named.{Named}
 use Rattle.rating.specs.declared.kinds.Named.the-variants.{Is, Unknown}
 use Rattle.rating.specs.Kinds.{kindOf}
-use Rattle.register.specs.declared.entries.Register.{Register}
+use Rattle.register.specs.declared.registers.Register.{Register}
 use Rattle.register.specs.declared.steps.Billed.{Billed}
 use Rattle.register.specs.declared.steps.Billed.the-variants as billed
 use Rattle.register.specs.declared.totals.Owed.{Owed}
 use Rattle.register.specs.declared.totals.Owed.the-variants as owed
-use Rattle.register.specs.Entries.{Call, callOf}
+use Rattle.entry.specs.Entries.{Call, callOf}
 use Rattle.register.specs.Registers.{billedOf, afterOf, owedOf, billedAnswer, owedAnswer}
+use Rattle.ledger.specs.Closings.{closedOf}
 use Rattle.door.specs.Lists.{setFrom}
 
 -- a number that is no kind's is asked for without bands, which rating refuses with 1
@@ -44,6 +45,11 @@ billLeft r x places = cond (leb 7 places) (afterOf r x) r
 -- imbrolt_owed
 unfoldable pub owedGiven : Register → ℕ → Answer ℤ
 owedGiven r customer = owedAnswer (owedOf r customer)
+
+-- imbrolt_close: the answer is that of imbrolt_owed; and the register afterwards, unchanged where the lent array has no room for
+-- the total
+unfoldable pub closeLeft : Register → ℕ → ℕ → Register
+closeLeft r customer places = cond (leb 1 places) (closedOf r customer) r
 
 -- ---- between the definitions and the code
 

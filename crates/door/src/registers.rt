@@ -2,6 +2,7 @@
 use crate::given::give;
 use crate::given::sheet_numbers;
 use crate::lists::set_from;
+use ledger::close_for;
 use quantity::BandSet;
 use quantity::Fen;
 use rating::Kind;
@@ -16,10 +17,10 @@ ghost use mathlib.Core.Path.{_≡_};
 ghost use lib.ListN.{length};
 ghost use Rattle.register.specs.Registers.{billedAnswer, owedAnswer};
 ghost use Rattle.door.specs.Answers.{returned, held};
-ghost use Rattle.door.specs.Registers.{kindAsked, bandsAsked, callGiven, billAnswer, billLeft, owedGiven, BillFits, OwedFits};
+ghost use Rattle.door.specs.Registers.{kindAsked, bandsAsked, callGiven, billAnswer, billLeft, owedGiven, closeLeft, BillFits, OwedFits};
 
 // A register as a call leaves it, and the number that the call returns.
-pub struct Billing {
+pub struct Changed {
     pub register: Register,
     pub number: u32,
 }
@@ -93,7 +94,7 @@ pub fn bill_given(
     marks: u32,
     price: u32,
     out: &mut [i32],
-) -> Billing
+) -> Changed
     ensures { λ r. ⌜ r .number ≡ returned (billAnswer register (callGiven customer (now (key .entry)) kind (now (values .entry)) marks price)) (length (now (out .entry))) ⌝ }
     ensures { λ r. ⌜ r .register ≡ billLeft register (callGiven customer (now (key .entry)) kind (now (values .entry)) marks price) (length (now (out .entry))) ⌝ }
     ensures { λ _. ⌜ now (out .exit) ≡ held (billAnswer register (callGiven customer (now (key .entry)) kind (now (values .entry)) marks price)) (now (out .entry)) ⌝ }
@@ -103,13 +104,13 @@ pub fn bill_given(
     let step = enter(register, customer, key, kind_asked(named), set, Fen(price));
     let billed = step.billed;
     if out.len() < 7 {
-        return Billing {
+        return Changed {
             register,
             number: give_billed(out, billed),
         };
     }
     let entered = step.register;
-    Billing {
+    Changed {
         register: entered,
         number: give_billed(out, billed),
     }
@@ -121,4 +122,25 @@ pub fn owed_given(register: Register, customer: u64, out: &mut [i32]) -> u32
     ensures { λ _. ⌜ now (out .exit) ≡ held (owedGiven register customer) (now (out .entry)) ⌝ }
 {
     give_owed(out, owed_by(register, customer))
+}
+
+// One call of `close`. Where the lent array has no room for the total, the register is not changed.
+pub fn close_given(register: Register, customer: u64, out: &mut [i32]) -> Changed
+    ensures { λ r. ⌜ r .number ≡ returned (owedGiven register customer) (length (now (out .entry))) ⌝ }
+    ensures { λ r. ⌜ r .register ≡ closeLeft register customer (length (now (out .entry))) ⌝ }
+    ensures { λ _. ⌜ now (out .exit) ≡ held (owedGiven register customer) (now (out .entry)) ⌝ }
+{
+    let step = close_for(register, customer);
+    let owed = step.owed;
+    if out.len() < 1 {
+        return Changed {
+            register,
+            number: give_owed(out, owed),
+        };
+    }
+    let left = step.register;
+    Changed {
+        register: left,
+        number: give_owed(out, owed),
+    }
 }

@@ -55,6 +55,11 @@ unfolding sumTo
 sum-const b zero = omega arith
 sum-const b (suc n) = omega (arith, sum-const b n)
 
+pub sum-zeros : (n : ℕ) → sumTo (λ i. 0) n ≡ 0
+unfolding sumTo
+sum-zeros zero = refl
+sum-zeros (suc n) = omega (arith, sum-zeros n)
+
 -- the integers' sum, by its parts
 pub sumℤ-parts : (f : ℕ → ℤ) (n : ℕ) → P (sumℤ f n) + sumTo (λ i. N (f i)) n ≡ N (sumℤ f n) + sumTo (λ i. P (f i)) n
 unfolding sumTo sumℤ

@@ -16,10 +16,6 @@ sure true f = refl
 sure false f = absurd (f refl)
 
 -- two tests that hold together
-pub one-test : (a b : Bool) → (a ≡ true → b ≡ true) → (b ≡ true → a ≡ true) → a ≡ b
-one-test true b f g = sym (f refl)
-one-test false b f g = sym (refuted b (λ e. never (g e) refl))
-
 pub both : (a b : Bool) → a && b ≡ true → (a ≡ true) × (b ≡ true)
 both true b e = (refl, e)
 both false b e = absurd (never e refl)

@@ -13,15 +13,15 @@ use Rattle.quantity.specs.declared.refusals.Refusal.the-variants.{NotRequest, P
 use Rattle.rating.specs.declared.sheets.Sheet.{Sheet}
 use Rattle.rating.specs.declared.sheets.Rated.the-variants as rating
 use Rattle.rating.specs.Sheets.{ratedOf}
-use Rattle.register.specs.declared.entries.Entry.{Entry}
-use Rattle.register.specs.declared.entries.Register.{Register}
+use Rattle.entry.specs.declared.entries.Entry.{Entry}
+use Rattle.register.specs.declared.registers.Register.{Register}
 use Rattle.register.specs.declared.steps.Billed.the-variants.{Refused}
 use Rattle.register.specs.declared.steps.Step.{Step}
-use Rattle.register.specs.Entries.{sameKey, sameBands, Call, entryOf}
+use Rattle.entry.specs.Entries.{sameKey, sameBands, Call, entryOf}
 use Rattle.register.specs.Registers.{entryAt, sound, known, held, Due, placeDue, dueOf, billedBy, billedOf, afterBy, afterOf}
 use Rattle.register.specs.Registers.Due.{refuse, repeat, enter}
 use Rattle.register.proofs.Tests.{any-none, any-found, any-mono}
-use Rattle.register.proofs.Texts.{key-sym, key-trans}
+use Rattle.entry.proofs.Texts.{key-sym, key-trans}
 use Rattle.register.proofs.Places.{Missed}
 use Rattle.register.proofs.Soundness.{sole}
 

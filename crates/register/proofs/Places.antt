@@ -1,44 +1,22 @@
--- Words and places: one customer and key have one word, so entries of other words need not be compared, and an entry whose
--- remainder no entry before it had is not repeated. Assumes nothing.
-use mathlib.Core.Path.{_≡_, refl, sym, _∙_, ap, ap₂}
+-- Places: entries of other words need not be compared, and an entry whose remainder no entry before it had is not repeated.
+-- Assumes nothing.
+use mathlib.Core.Path.{_≡_, sym, _∙_, ap}
 use mathlib.Core.Bool.{true, false, not}
 use mathlib.Core.List.{List}
-use Prim.Native.Nat.{ℕ, _+_, _*_, _%_, _≤_, _<_}
-use native.Mathlib.Numerals.{add-one}
+use Prim.Native.Nat.{ℕ, _+_, _%_, _≤_, _<_}
 use native.Mathlib.Decide.{ℕ-discrete, decLt}
 use native.Mathlib.Omega.{arith}
 use lib.ListN.{length, getD, set, length-set}
 use lib.Seq.{getD-set-same, getD-set-other}
-use Rattle.laws.proofs.Tests.{refuted}
 use Rattle.curve.specs.Bands.{allTo, anyTo}
 use Rattle.curve.proofs.Walks.{all-none, all-more, all-fails}
-use Rattle.register.specs.declared.entries.Entry.{Entry}
-use Rattle.register.specs.declared.entries.Register.{Register}
-use Rattle.register.specs.Entries.{sameKey}
+use Rattle.entry.specs.declared.entries.Entry.{Entry}
+use Rattle.entry.proofs.Keys.{word-apart}
+use Rattle.register.specs.declared.registers.Register.{Register}
+use Rattle.entry.specs.Entries.{sameKey, wordOf}
 use Rattle.register.specs.Registers.{entryAt, repeated}
-use Rattle.register.specs.Words.{wordTo, wordOf, PlaceOf}
+use Rattle.register.specs.Looks.{PlaceOf}
 use Rattle.register.proofs.Tests.{any-none, any-found, any-more}
-use Rattle.register.proofs.Texts.{key-same}
-
--- ---- a word, byte after byte
-module _ (customer : ℕ) (key : List ℕ) where
-  pub word-none : customer % 4294967296 ≡ wordTo customer key 0
-  unfolding wordTo
-  word-none = refl
-
-  pub word-more : (i s : ℕ) → s ≡ wordTo customer key i → (s * 33 + getD key i 0) % 4294967296 ≡ wordTo customer key (i + 1)
-  unfolding wordTo
-  word-more i s e = ap (λ (w : ℕ). (w * 33 + getD key i 0) % 4294967296) e ∙ ap (wordTo customer key) (sym (add-one i))
-
-pub word-same : (e f : Entry) → sameKey e f ≡ true → wordOf e ≡ wordOf f
-unfolding wordOf
-word-same e f h =
-    let s = key-same e f h in
-    ap₂ (λ (c : ℕ) (k : List ℕ). wordTo c k (length k)) (s .0) (s .1)
-
--- another word, another customer or key
-pub word-apart : (e f : Entry) → (wordOf e ≡ wordOf f → ⊥) → sameKey e f ≡ false
-word-apart e f h = refuted (sameKey e f) (λ s. h (word-same e f s))
 
 -- ---- the place of a customer and key
 -- none of the first i entries has them

@@ -13,8 +13,8 @@ use Rattle.rating.specs.declared.sheets.Sheet.{Sheet}
 use Rattle.rating.specs.declared.sheets.Rated.{Rated}
 use Rattle.rating.specs.declared.sheets.Rated.the-variants.{Rating, Refused}
 use Rattle.rating.specs.Sheets.{ratedOf}
-use Rattle.register.specs.declared.entries.Register.{Register}
-use Rattle.register.specs.Entries.{Call, entryOf}
+use Rattle.register.specs.declared.registers.Register.{Register}
+use Rattle.entry.specs.Entries.{Call, entryOf}
 use Rattle.register.specs.Registers.{sound, known, held, placeDue, dueOf}
 use Rattle.register.specs.Registers.Due.{refuse, repeat, enter}
 use Rattle.register.proofs.Dues.{place-held, place-known, place-free, place-full, due-damaged, due-shape, due-refused, due-price, due-placed}

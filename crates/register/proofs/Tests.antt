@@ -6,7 +6,7 @@ use native.Mathlib.Nat.{le-refl}
 use native.Mathlib.Numerals.{add-one}
 use native.Mathlib.Decide.{decLt}
 use native.Mathlib.Omega.{arith}
-use Rattle.laws.proofs.Tests.{never, refuted}
+use Rattle.laws.proofs.Tests.{never}
 use Rattle.curve.specs.Bands.{anyTo}
 
 pub any-none : (ok : ℕ → Bool) (n : ℕ) → ((i : ℕ) → i < n → ok i ≡ false) → anyTo ok n ≡ false
@@ -28,9 +28,6 @@ any-found ok (suc n) i h e = go (λ p. any-found ok n i p e) (decLt i n)
     go before (no p) =
         let s : i ≡ n = omega arith in
         ap (λ (b : Bool). anyTo ok n || b) (ap ok (sym s) ∙ e) ∙ or-true (anyTo ok n)
-
-pub any-fails : (ok : ℕ → Bool) (n : ℕ) → anyTo ok n ≡ false → (i : ℕ) → i < n → ok i ≡ false
-any-fails ok n e i h = refuted (ok i) (λ f. never (any-found ok n i h f) e)
 
 pub any-mono : (f g : ℕ → Bool) (n : ℕ) → ((i : ℕ) → f i ≡ true → g i ≡ true) → anyTo f n ≡ true → anyTo g n ≡ true
 unfolding anyTo

@@ -1,5 +1,3 @@
--- The register of request keys: its entries, what a call comes to and leaves, and what histories of calls add up to.
-pub mod Entries
+-- The register of request keys: what a call comes to and leaves.
 pub mod Registers
-pub mod Histories
-pub mod Words
+pub mod Looks

@@ -2,15 +2,14 @@
 //
 // The register holds numbers only, since it lies in a caller's memory and may be read back from a file: nothing in it is
 // trusted before it is tested. All here is by value: `desk` takes the register from where it stands and puts it back.
-mod entries;
+mod lookup;
+mod registers;
 mod sound;
 mod steps;
 mod totals;
-mod words;
 
-pub use entries::Entry;
-pub use entries::Register;
-pub use entries::open_register;
+pub use registers::Register;
+pub use registers::open_register;
 pub use steps::Billed;
 pub use steps::Step;
 pub use steps::enter;

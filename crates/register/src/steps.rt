@@ -1,11 +1,11 @@
 // The entry step: what a call is answered, and the register that it leaves.
-use crate::entries::Entry;
-use crate::entries::Register;
-use crate::entries::entry_of;
-use crate::entries::same_bands;
+use crate::lookup::place_of;
+use crate::registers::Register;
 use crate::sound::look;
-use crate::words::place_of;
-use crate::words::word_of;
+use entry::Entry;
+use entry::entry_of;
+use entry::same_bands;
+use entry::word_of;
 use quantity::BandSet;
 use quantity::Fen;
 use quantity::Refusal;
@@ -18,9 +18,9 @@ ghost use mathlib.Core.Bool.{true};
 ghost use mathlib.Core.Path.{_≡_};
 ghost use Prim.Native.Nat.{_≤_, _<_};
 ghost use Rattle.rating.specs.Kinds.{kindNumber};
-ghost use Rattle.register.specs.Entries.{callOf};
+ghost use Rattle.entry.specs.Entries.{callOf};
 ghost use Rattle.register.specs.Registers.{sound, withEntry, placeDue, billedBy, afterBy, billedOf, afterOf};
-ghost use Rattle.register.specs.Words.{WordsOf};
+ghost use Rattle.register.specs.Looks.{WordsOf};
 
 // The sheet and what is charged now, or the refusal that is given instead.
 pub enum Billed {

@@ -28,12 +28,12 @@ use Rattle.quantity.proofs.quantities.Fen as F
 use Rattle.quantity.proofs.quantities.Fen.Laws as F′
 use Rattle.rating.proofs.kinds.Kind as K
 use Rattle.rating.proofs.kinds.Kind.Laws as K′
-use Rattle.register.specs.Entries.{Call, callOf}
+use Rattle.entry.specs.Entries.{Call, callOf}
 use Rattle.register.specs.Registers.{billedOf, afterOf, billedAnswer}
 use Rattle.register.proofs.steps.Billed as C
 use Rattle.register.proofs.steps.Billed.Laws as C′
-use Rattle.register.proofs.entries.Register as T
-use Rattle.register.proofs.entries.Register.Laws as T′
+use Rattle.register.proofs.registers.Register as T
+use Rattle.register.proofs.registers.Register.Laws as T′
 use Rattle.register.proofs.steps.Step as S
 use Rattle.register.proofs.steps.Step.Laws as S′
 use Rattle.register.proofs.enter as step

@@ -22,7 +22,7 @@ use denote.Triple.Spec.{Meets, tripleOf}
 use denote.Triple.Statement.{Contract, Triple}
 use denote.Triple.Table.{entered, cited}
 use Rattle.register.specs.Registers.{owedOf, owedAnswer}
-use Rattle.register.proofs.entries.Register as T
+use Rattle.register.proofs.registers.Register as T
 use Rattle.register.proofs.totals.Owed as O
 use Rattle.register.proofs.totals.Owed.Laws as O′
 use Rattle.register.proofs.owed_by as step

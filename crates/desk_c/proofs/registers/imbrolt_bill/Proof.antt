@@ -23,10 +23,10 @@ use denote.Triple.Clauses.{Clauses}
 use denote.Triple.Spec.{Meets, tripleOf}
 use denote.Triple.Statement.{Contract, Triple}
 use denote.Triple.Table.{entered, cited}
-use Rattle.register.proofs.entries.Register as T
-use Rattle.register.proofs.entries.Register.Laws as T′
-use Rattle.door.proofs.registers.Billing as S
-use Rattle.door.proofs.registers.Billing.Laws as S′
+use Rattle.register.proofs.registers.Register as T
+use Rattle.register.proofs.registers.Register.Laws as T′
+use Rattle.door.proofs.registers.Changed as S
+use Rattle.door.proofs.registers.Changed.Laws as S′
 use Rattle.door.proofs.bill_given as step
 use Rattle.door.proofs.bill_given.Symbol as step-def
 use Rattle.door.proofs.bill_given.Symbol.{name as #step}

@@ -23,7 +23,7 @@ use denote.Triple.Clauses.{Clauses}
 use denote.Triple.Spec.{Meets, tripleOf}
 use denote.Triple.Statement.{Contract, Triple}
 use denote.Triple.Table.{entered, cited}
-use Rattle.register.proofs.entries.Register as T
+use Rattle.register.proofs.registers.Register as T
 use Rattle.door.proofs.owed_given as step
 use Rattle.door.proofs.owed_given.Symbol as step-def
 use Rattle.door.proofs.owed_given.Symbol.{name as #step}

@@ -22,7 +22,7 @@ use denote.Triple.Clauses.{Clauses}
 use denote.Triple.Spec.{Meets, tripleOf}
 use denote.Triple.Statement.{Contract, Triple}
 use denote.Triple.Table.{entered, cited}
-use Rattle.register.proofs.entries.Register as T
+use Rattle.register.proofs.registers.Register as T
 use Rattle.register.proofs.open_register as step
 use Rattle.register.proofs.open_register.Symbol as step-def
 use Rattle.register.proofs.open_register.Symbol.{name as #step}

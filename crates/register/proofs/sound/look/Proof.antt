@@ -10,11 +10,11 @@ use borrow.Author.Tests.{not-true, not-false}
 use Rattle.laws.proofs.Lists.{Agreed, agreed-none, agreed-set}
 use Rattle.curve.specs.Bands.{allTo}
 use Rattle.curve.proofs.Walks.{all-none, all-more, all-fails}
-use Rattle.register.specs.Entries.{entryOk}
+use Rattle.entry.specs.Entries.{entryOk, wordOf}
 use Rattle.register.specs.Registers.{entryAt, repeated}
-use Rattle.register.specs.Words.{wordOf}
 use Rattle.register.proofs.Places.{Met, met-none, met-apart, met-more, repeated-fails}
-use Rattle.register.proofs.Soundness.{ok-short, shorts, looked-many, looked-bad, looked-twice, looked}
+use Rattle.entry.proofs.Oks.{ok-short}
+use Rattle.register.proofs.Soundness.{shorts, looked-many, looked-bad, looked-twice, looked}
 use Rattle.register.proofs.sound.look.Statement.{statement}
 use Rattle.register.proofs.sound.look.Tie as tie
 

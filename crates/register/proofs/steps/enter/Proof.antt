@@ -9,9 +9,9 @@ use Rattle.quantity.specs.declared.refusals.Refusal.the-variants.{NotRequest, P
 use Rattle.quantity.proofs.Shapes.{key-shape}
 use Rattle.rating.specs.declared.sheets.Rated.the-variants as rating
 use Rattle.rating.specs.Sheets.{ratedOf}
-use Rattle.register.specs.Entries.{Call, callOf}
+use Rattle.entry.specs.Entries.{Call, callOf}
 use Rattle.register.specs.Registers.{sound}
-use Rattle.register.proofs.Bands.{entry-length, entry-kind}
+use Rattle.entry.proofs.Bands.{entry-length, entry-kind}
 use Rattle.register.proofs.Dues.{due-damaged, due-shape, due-refused, due-price, due-placed, step-refused, step-placed}
 use Rattle.register.proofs.steps.enter.Statement.{statement}
 use Rattle.register.proofs.steps.enter.Tie as tie
