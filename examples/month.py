@@ -1,4 +1,4 @@
-"""A month of a laboratory: sheets of two customers go on one register.
+"""A month of a laboratory: sheets of two customers go on one register, which is closed at its end.
 
     python3 examples/month.py
 
@@ -29,8 +29,8 @@ def bill(register, customer, key, kind, values, price):
     print(f"{customer} {key.decode()}: {sheet.rating} dB, {charged} fen")
 
 
-def main():
-    register = Register()
+def month(register):
+    """The calls of a month."""
     bill(register, DOORS, b"door-1", Kind.A1, DOOR, 50000)
     bill(register, FLOORS, b"floor-1", Kind.I3, FLOOR, 80000)
 
@@ -42,15 +42,34 @@ def main():
     bill(register, DOORS, b"door-1", Kind.A1, DOOR_WITH_SEAL, 50000)
     bill(register, FLOORS, b"door-1", Kind.A1, DOOR, 50000)
 
-    # The register outlives the program: its bytes are kept in a file.
-    with tempfile.TemporaryDirectory() as folder:
-        file = Path(folder) / "register"
-        file.write_bytes(register.to_bytes())
-        register = Register.from_bytes(file.read_bytes())
 
-    bill(register, FLOORS, b"floor-1", Kind.I3, FLOOR, 80000)
-    for customer in (DOORS, FLOORS):
-        print(f"{customer} owes {register.owed(customer)} fen")
+def month_end(register, folder):
+    """Closes both customers: their totals are handed out, and their entries go."""
+    totals = {customer: register.close(customer) for customer in (DOORS, FLOORS)}
+
+    # Before the customers are told all is saved, the totals first: as long as the register that
+    # was saved has the entries, they can be closed again for the same totals.
+    bills = "".join(f"{customer} is billed {total} fen\n" for customer, total in totals.items())
+    (folder / "bills").write_text(bills)
+    (folder / "register").write_bytes(register.to_bytes())
+    print(bills, end="")
+
+
+def main():
+    register = Register()
+    month(register)
+    with tempfile.TemporaryDirectory() as name:
+        folder = Path(name)
+
+        # The register outlives the program: its bytes are kept in a file.
+        (folder / "register").write_bytes(register.to_bytes())
+        register = Register.from_bytes((folder / "register").read_bytes())
+        bill(register, FLOORS, b"floor-1", Kind.I3, FLOOR, 80000)
+        month_end(register, folder)
+
+    # A key of last month is new again.
+    bill(register, DOORS, b"door-2", Kind.A1, DOOR_WITH_SEAL, 50000)
+    print(f"{DOORS} owes {register.owed(DOORS)} fen")
 
 
 if __name__ == "__main__":

@@ -94,7 +94,8 @@ enum imbrolt_places {
     IMBROLT_WROTE_PLACES = 1,
     IMBROLT_PROGRESS_PLACES = 3,
     IMBROLT_BILL_PLACES = 7,
-    IMBROLT_OWED_PLACES = 1
+    IMBROLT_OWED_PLACES = 1,
+    IMBROLT_CLOSE_PLACES = 1
 };
 
 /*
@@ -335,6 +336,25 @@ uint32_t imbrolt_bill(imbrolt_register *reg, uint64_t customer, const uint8_t *k
  * Refusals: IMBROLT_REGISTER_DAMAGED as for imbrolt_bill, IMBROLT_OUTPUT_TOO_SMALL.
  */
 uint32_t imbrolt_owed(const imbrolt_register *reg, uint64_t customer, int32_t *out, size_t out_len);
+
+/*
+ * Closes a customer's entries, as after billing: their total is handed out, the entries go, and the
+ * others move together in their order. From then on the customer's keys are new again and the total
+ * starts at 0; the room takes other keys. Other customers' totals and retries are as they were.
+ *
+ *   out[0]  the total in fen, 0 for a customer without keys
+ *
+ * An entry that moves keeps all its bytes. Those of the places from the new count up to the old one
+ * become 0, so that nothing of what went stays in the register; places from the old count on keep
+ * their contents. Copies that a call makes on its stack are not cleared. For a customer without keys,
+ * or where the call is refused, nothing changes.
+ *
+ * What was handed out is not in the register any more: a host should keep the total, and save the
+ * register, before it lets the customer know.
+ *
+ * Refusals: IMBROLT_REGISTER_DAMAGED as for imbrolt_bill, IMBROLT_OUTPUT_TOO_SMALL.
+ */
+uint32_t imbrolt_close(imbrolt_register *reg, uint64_t customer, int32_t *out, size_t out_len);
 
 #ifdef __cplusplus
 }

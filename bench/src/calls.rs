@@ -89,6 +89,7 @@ pub fn time_calls() {
     let mut wrote = [0];
     row!("line, airborne thirds", lines(), line => line(line, &mut text, 0, &mut wrote));
     time_bills();
+    time_closings();
 }
 
 /// Bills on a register of 511 entries of one customer: of new keys, and of those that are there.
@@ -123,6 +124,43 @@ fn time_bills() {
         let by_door = nanoseconds(bills, |bill| proved(ENTERED, bill));
         print_row(name, by_door, nanoseconds(bills, |bill| plain(ENTERED, bill)));
     }
+}
+
+/// Closings on a full register: of a customer who has every other entry, and of one without any.
+///
+/// Before each call the register is copied from a full one. What the copy takes is measured by
+/// itself and taken off, the same on both sides.
+fn time_closings() {
+    let mut words = Box::new([0; imbrolt::Register::BYTES / 8]);
+    let mut register = Box::new(Register::EMPTY);
+    let mut out = [0; 7];
+    for (place, set) in sets(&WALL)[..ENTRIES].iter().enumerate() {
+        let (customer, key) = (7 + place as u64 % 2, format!("wall-{place}").into_bytes());
+        let door = imbrolt::door::bill(&mut words, customer, &key, 0, set, 0, 500, &mut out);
+        let plain =
+            imbrolt_plain::door::bill(&mut register, customer, &key, 0, set, 0, 500, &mut out);
+        assert_eq!((door, plain), (0, 0));
+    }
+    for (name, customer) in
+        [("close, a customer with half of 512 keys", 7), ("close, a customer without keys", 9)]
+    {
+        let by_door = on_copies(&words, |words| imbrolt::door::close(words, customer, &mut out));
+        let plain =
+            on_copies(&register, |copy| imbrolt_plain::door::close(copy, customer, &mut out));
+        print_row(name, by_door, plain);
+    }
+}
+
+/// Nanoseconds of a call on a copy that is made anew each time, less those of the copy.
+fn on_copies<R: Clone>(full: &R, mut call: impl FnMut(&mut R) -> u32) -> f64 {
+    let mut copy = full.clone();
+    let mut timed = |call: &mut dyn FnMut(&mut R) -> u32| {
+        nanoseconds(&[(); 64], |()| {
+            copy.clone_from(full);
+            call(black_box(&mut copy))
+        })
+    };
+    timed(&mut call) - timed(&mut |_| 0)
 }
 
 /// So many sets one after another, as an analyser's floats.

@@ -187,6 +187,7 @@ _FUNCTIONS = {
     "register_open": (_longs,),
     "bill": (_longs, _u64, _bytes, _size, _u32, _ints, _size, _u32, _u32, _ints, _size),
     "owed": (_longs, _u64, _ints, _size),
+    "close": (_longs, _u64, _ints, _size),
 }
 
 
@@ -429,8 +430,26 @@ class Register:
         return Billed(_sheet(numbers), Fen(charged))
 
     def owed(self, customer):
-        """The total of a customer, in fen."""
-        return Fen(_answer("owed", 1, self._words, _customer(customer))[0])
+        """The total of a customer, in fen: of the keys entered since the last close."""
+        return self._total("owed", customer)
+
+    def close(self, customer):
+        """Hands out the total of a customer, in fen, and takes the customer's entries away.
+
+        A key used before is new again. What was handed out is not in the register any more: keep
+        it, and save the register, before the customer is told.
+
+            >>> register = Register()
+            >>> billed = register.bill(7, b"door-1", Kind.A1, [240, 330, 400, 430, 440], 500)
+            >>> register.close(7), register.owed(7), register.close(7)
+            (500, 0, 0)
+            >>> register.bill(7, b"door-1", Kind.A1, [250, 345, 420, 445, 460], 600).charged
+            600
+        """
+        return self._total("close", customer)
+
+    def _total(self, name, customer):
+        return Fen(_answer(name, 1, self._words, _customer(customer))[0])
 
     def to_bytes(self):
         """Its bytes as they stand in memory, to be kept."""
@@ -467,6 +486,7 @@ def _example():
     print("billed:", register.bill(7, b"wall-1", Kind.A3, wall, 800))
     print("billed again:", register.bill(7, b"wall-1", Kind.A3, wall, 800).charged, "fen")
     print("owed:", register.owed(7), "fen")
+    print("closed:", register.close(7), "fen, then owed:", register.owed(7), "fen")
     try:
         rate(Kind.A1, wall)
     except Refused as refused:

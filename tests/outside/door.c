@@ -67,6 +67,7 @@ static uint32_t call(struct frame *f)
     case 14:
         return imbrolt_bill(p, n[0], q, qn, (uint32_t)n[1], r, rn, (uint32_t)n[2], (uint32_t)n[3], s, sn);
     case 15: return imbrolt_owed(p, n[0], q, qn);
+    case 16: return imbrolt_close(p, n[0], q, qn);
     default: return UINT32_MAX;
     }
 }

@@ -168,8 +168,8 @@ def step_by_binding(register, step):
             call = step[1]
             answer = register.bill(call.customer, call.key, call.number, call.band_set.values,
                                    call.price, call.band_set.marks)
-        elif step[0] == "owed":
-            answer = register.owed(step[1])
+        elif step[0] in ("owed", "close"):
+            answer = getattr(register, step[0])(step[1])
     except binding.Refused as refusal:
         refused = int(refusal.refusal)
     return text_of_answer(step, refused, answer, before, register.to_bytes()), register

@@ -1000,12 +1000,16 @@ def test_register_refusals_in_order():
         same(refusal_of(register.bill_in, memory, call, 7), 1, "no kind")
 
 
-def test_owed_refusals_in_order():
-    memory = memory_of([call_of(7, b"k", 12)])
-    same(refusal_of(register.owed_in, memory, 7, 0), 10)
-    memory[register.COUNT_AT + 1] = 2
-    for places in (0, 1):
-        same(refusal_of(register.owed_in, memory, 7, places), 19)
+def test_refusals_of_totals_in_order():
+    """19, then 10; the register unchanged."""
+    sound = memory_of([call_of(7, b"k", 12)])
+    damaged = bytearray(sound)
+    damaged[register.COUNT_AT + 1] = 2
+    for call in (register.owed_in, register.close_in):
+        for memory, places, number in ((sound, 0, 10), (damaged, 0, 19), (damaged, 1, 19)):
+            kept = bytes(memory)
+            same(refusal_of(call, memory, 7, places), number)
+            same_bytes(memory, kept)
 
 
 def test_keys_of_the_register():
@@ -1017,12 +1021,13 @@ def test_keys_of_the_register():
 
 
 def damaged_by(memory, place, data):
-    """The refusals of both calls on a register with some bytes replaced."""
+    """The refusals of the calls on a register with some bytes replaced."""
     memory = bytearray(memory)
     memory[place:place + len(data)] = data
     kept = bytes(memory)
     numbers = {refusal_of(register.bill_in, memory, call_of(7, b"K1", 5), 7),
-               refusal_of(register.owed_in, memory, 7, 1)}
+               refusal_of(register.owed_in, memory, 7, 1),
+               refusal_of(register.close_in, memory, 7, 1)}
     if numbers == {19}:
         same_bytes(memory, kept, place)
     return numbers
@@ -1090,33 +1095,133 @@ def test_what_never_matters_in_a_register():
     same_bytes(junk, want, "one entry and the count are written, nothing else")
 
 
-def total_by_the_calls(accepted, customer):
-    """Over all accepted calls: each distinct key once, the first price counting."""
-    keys = {call.key for call in accepted if call.customer == customer}
-    return sum(next(call.price for call in accepted
-                    if (call.customer, call.key) == (customer, key)) for key in keys)
+# Month end.
+
+def test_two_months_of_two_customers():
+    """Charges, what is handed out and totals worked out by hand; a customer alone is closed."""
+    memory = bytearray(register.SIZE)
+    other = (250, 345, 420, 445, 460)
+    for asked, answer, totals in (
+            (7, 0, (0, 0)),
+            (call_of(7, b"W-1", 500), 500, (500, 0)),
+            (call_of(8, b"W-1", 900), 900, (500, 900)),
+            (call_of(7, b"W-2", 30), 30, (530, 900)),
+            (call_of(7, b"W-1", 500, other), -17, (530, 900)),
+            (9, 0, (530, 900)),
+            (7, 530, (0, 900)),
+            (7, 0, (0, 900)),
+            (call_of(8, b"W-1", 1), 0, (0, 900)),
+            (call_of(8, b"W-1", 1, other), -17, (0, 900)),
+            (call_of(7, b"W-1", 600, other), 600, (600, 900)),
+            (call_of(7, b"W-1", 500), -17, (600, 900)),
+            (call_of(7, b"W-2", 40), 40, (640, 900)),
+            (8, 900, (640, 0)),
+            (call_of(8, b"W-1", 2), 2, (640, 2)),
+            (7, 640, (0, 2)),
+            (8, 2, (0, 0))):
+        closed = isinstance(asked, int)
+        have = register.close_in(memory, asked, 1) if closed else charge_of(memory, asked)
+        same(have, answer, asked)
+        same(tuple(register.owed_in(memory, customer, 1) for customer in (7, 8)), totals, asked)
+    same_bytes(memory, bytes(57352), "nothing stays of what was closed")
+
+
+def test_closing_byte_by_byte():
+    """The others' bytes move as they are; zeros up to the old count, and the rest as it was."""
+    owners = (7, 8, 8, 7, 9, 7, 8)
+    calls = [call_of(owner, b"K%d" % place, place) for place, owner in enumerate(owners)]
+    memory = memory_of(calls)
+    for start in range(0, 7 * 112, 112):
+        memory[start + 12:start + 40] = bytes(range(start % 200, start % 200 + 28))
+        memory[start + 60:start + 104] = (start + 1).to_bytes(44, "big")
+    memory[7 * 112:9 * 112] = 224 * b"\xee"
+    entries = [bytes(memory[start:start + 112]) for start in range(0, 9 * 112, 112)]
+    for customer, total, kept in ((7, 8, (1, 2, 4, 6)), (8, 9, (0, 3, 4, 5)),
+                                  (9, 4, (0, 1, 2, 3, 5, 6)), (10, 0, range(7)), (0, 0, range(7))):
+        left = bytearray(memory)
+        same(register.close_in(left, customer, 1), total, customer)
+        want = b"".join(entries[place] for place in kept).ljust(7 * 112, b"\0")
+        want += entries[7] + entries[8] + bytes(503 * 112) + bytes([len(kept)]) + bytes(7)
+        same_bytes(left, want, customer)
+
+
+def test_closing_makes_room():
+    """A full register takes as many new keys as went, those of before among them, and no more."""
+    memory = full_memory(call_of(7, b"known", 12))
+    same(register.close_in(memory, 7, 1), 12)
+    same(charge_of(memory, call_of(7, b"known", 13, number=3)), 13, "with another kind")
+    same(charge_of(memory, call_of(7, b"new", 12)), -18)
+    same(register.close_in(memory, 1, 1), 511)
+    for place in range(511):
+        same(charge_of(memory, call_of(8, b"other-%d" % place, 2)), 2, place)
+    same(charge_of(memory, call_of(1, b"other-0", 2)), -18)
+    same([register.close_in(memory, customer, 1) for customer in (1, 8, 7)], [0, 1022, 13])
+
+
+# Totals by the calls and their answers alone.
+
+class Books:
+    """What each customer was charged and handed out, and the accepted calls not closed yet."""
+
+    def __init__(self):
+        self.accepted, self.charged, self.handed_out = [], {}, {}
+
+    def take(self, step, answer):
+        """Takes down a step that was not refused."""
+        if step[0] == "bill":
+            customer = step[1].customer
+            self.accepted.append(step[1])
+            self.charged[customer] = self.charged.get(customer, 0) + answer[1]
+        elif step[0] == "close":
+            customer = step[1]
+            same(answer, self.total(customer), "handed out")
+            self.accepted = [call for call in self.accepted if call.customer != customer]
+            self.handed_out[customer] = self.handed_out.get(customer, 0) + answer
+
+    def total(self, customer):
+        """Since the last closing: each distinct key once, the first price counting."""
+        prices = {}
+        for call in self.accepted:
+            if call.customer == customer:
+                prices.setdefault(call.key, call.price)
+        return sum(prices.values())
+
+    def check(self, memory):
+        """What was handed out and what is owed were charged, and the keys are those not closed."""
+        for customer in {0, *self.charged, *self.handed_out}:
+            owed = register.owed_in(memory, customer, 1)
+            same(owed, self.total(customer), customer)
+            same(self.handed_out.get(customer, 0) + owed, self.charged.get(customer, 0), customer)
+        entered = register.register_of_bytes(memory)
+        same(set(entered), {(call.customer, call.key) for call in self.accepted})
+        same_bytes(register.bytes_of_register(entered), memory)
+
+
+def outcome_of(memory, step):
+    """The number a step is refused with or 0, and what it answers."""
+    try:
+        return 0, taken(memory, step)
+    except Refused as refused:
+        return refused.number, None
 
 
 def test_totals_over_histories():
-    """By the calls accepted since the register was opened empty; every refusal is met."""
+    """Since the register was opened empty, at the end and after each closing; every refusal."""
     met = set()
     for steps in histories(Seeded(14)):
         memory = bytearray(register.SIZE)
-        accepted, opened = [], True
+        books = Books()
         for step in steps:
-            number = refusal_of(taken, memory, step)
+            number, answer = outcome_of(memory, step)
             met.add((step[0], number))
             if step[0] in ("open", "put"):
-                accepted, opened = [], step[0] == "open"
-            elif step[0] == "bill" and number == 0:
-                accepted.append(step[1])
-        if opened:
-            for customer in {call.customer for call in accepted} | {0}:
-                same(register.owed_in(memory, customer, 1),
-                     total_by_the_calls(accepted, customer), customer)
-            entered = register.register_of_bytes(memory)
-            same_bytes(register.bytes_of_register(entered), memory)
-    for word, numbers in (("bill", {0, 1, 4, 10, 11, 16, 17, 18, 19}), ("owed", {0, 10, 19})):
+                books = Books() if step[0] == "open" else None
+            if books and number == 0:
+                books.take(step, answer)
+                if step[0] in ("close", "read"):
+                    books.check(memory)
+    for word, numbers in (("bill", {0, 1, 4, 10, 11, 16, 17, 18, 19}), ("owed", {0, 10, 19}),
+                          ("close", {0, 10, 19})):
         same({number for one, number in met if one == word}, numbers, word)
 
 

@@ -186,3 +186,8 @@ pub fn bill(
 pub fn owed(register: &Register, customer: u64, out: &mut [i32]) -> u32 {
     unsafe { sys::imbrolt_owed(register.as_ptr(), customer, out.as_mut_ptr(), out.len()) }
 }
+
+/// The total of a customer, whose entries go.
+pub fn close(register: &mut Register, customer: u64, out: &mut [i32]) -> u32 {
+    unsafe { sys::imbrolt_close(register.as_mut_ptr(), customer, out.as_mut_ptr(), out.len()) }
+}

@@ -66,7 +66,8 @@ impl Register {
         Ok(Billed { sheet: sheet([a, b, c, d, e, f]), charged: Fen(charged as u32) })
     }
 
-    /// The total of a customer: the sum of the prices of that customer's keys.
+    /// The total of a customer: the sum of the prices of that customer's keys, of those entered
+    /// since the last [`close`](Register::close).
     ///
     /// Refused with `RegisterDamaged`.
     ///
@@ -74,8 +75,34 @@ impl Register {
     /// assert_eq!(imbrolt::Register::new().owed(7), Ok(imbrolt::Fen(0)));
     /// ```
     pub fn owed(&self, customer: u64) -> Result<Fen, Refusal> {
-        let [total] = answered(|out| door::owed(&self.0, customer, out))?;
-        Ok(Fen(total as u32))
+        answered(|out| door::owed(&self.0, customer, out)).map(total)
+    }
+
+    /// Hands out the total of a customer, whose entries go; the others move together in their order.
+    ///
+    /// A key used before is new again, and there is room for as many keys as went. What was handed
+    /// out is not in the register any more: keep the total, and save the register, before the
+    /// customer is told. Refused with `RegisterDamaged`; the register is then unchanged, as it is
+    /// for a customer without keys.
+    ///
+    /// ```
+    /// use imbrolt::{Fen, Kind, Refusal, Register, Tenths};
+    /// let mut register = Register::new();
+    /// let (door, sealed) = ([Tenths(400); 5], [Tenths(420); 5]);
+    /// register.bill(7, b"door-1", Kind::A1, &door, 0, Fen(500))?;
+    /// register.bill(8, b"door-1", Kind::A1, &door, 0, Fen(600))?;
+    /// assert_eq!(register.close(7)?, Fen(500));
+    /// assert_eq!((register.owed(7)?, register.owed(8)?), (Fen(0), Fen(600)));
+    /// let kept = register.clone();
+    /// assert_eq!(register.close(7)?, Fen(0));
+    /// assert_eq!(register, kept);
+    /// let new = register.bill(7, b"door-1", Kind::A1, &sealed, 0, Fen(700))?;
+    /// let retry = register.bill(8, b"door-1", Kind::A1, &door, 0, Fen(600))?;
+    /// assert_eq!((new.charged, retry.charged), (Fen(700), Fen(0)));
+    /// # Ok::<(), Refusal>(())
+    /// ```
+    pub fn close(&mut self, customer: u64) -> Result<Fen, Refusal> {
+        answered(|out| door::close(&mut self.0, customer, out)).map(total)
     }
 
     /// Its bytes, as they stand in memory, to be kept.
@@ -103,6 +130,10 @@ impl Register {
         let words = words.into_boxed_slice().try_into().ok()?;
         rest.is_empty().then_some(Register(words))
     }
+}
+
+fn total([fen]: [i32; 1]) -> Fen {
+    Fen(fen as u32)
 }
 
 impl Default for Register {

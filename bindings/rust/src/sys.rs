@@ -107,4 +107,5 @@ extern "C" {
         out_len: usize,
     ) -> u32;
     pub fn imbrolt_owed(register: *const u64, customer: u64, out: *mut i32, out_len: usize) -> u32;
+    pub fn imbrolt_close(register: *mut u64, customer: u64, out: *mut i32, out_len: usize) -> u32;
 }

@@ -119,7 +119,7 @@ pub fn answer_of(returned: u32, frame: &Frame) -> String {
             words.extend(masks.iter().map(|mask| mask.to_string()));
         }
         Call::Cover | Call::Octaves => say(frame.array(1)),
-        Call::Owed => say(&frame.array(1)[..1]),
+        Call::Owed | Call::Close => say(&frame.array(1)[..1]),
         Call::RegisterOpen => (),
         Call::Specimens | Call::Grade => say(frame.array(2)),
         _ => say(frame.array(0)),

@@ -10,7 +10,7 @@ use std::fmt::{self, Write};
 
 /// The calls that are compared, and how many frames or streams of each; of a register, how many
 /// calls in histories.
-pub const PLAN: [(Call, &str, usize); 14] = [
+pub const PLAN: [(Call, &str, usize); 15] = [
     (Call::Reading, "reading", 200_000),
     (Call::Rate, "rate", 250_000),
     (Call::RateReadings, "rate_readings", 100_000),
@@ -25,7 +25,12 @@ pub const PLAN: [(Call, &str, usize); 14] = [
     (Call::Line, "line", 150_000),
     (Call::Block, "block", 2_000),
     (Call::Bill, "register", 220_000),
+    (Call::Close, "closings", 180_000),
 ];
+
+/// A program speaks for a machine that is emulated, where a call on a register takes milliseconds:
+/// of those calls it is asked one in so many.
+const EMULATED: usize = 10;
 
 /// Frames are made and sent so many at a time.
 const BATCH: usize = 500;
@@ -48,12 +53,16 @@ pub fn all(door: &mut Door, wanted: &[String], part: usize) -> Compared {
             compared += streams;
             continue;
         }
-        let tally = if call == Call::Bill {
-            histories::compare(door, &mut seeded, count / part)?
-        } else {
-            let mut tally = every_length(door, &mut seeded, call)?;
-            tally.add(&random(door, &mut seeded, call, count / part)?);
-            tally
+        let tally = match call {
+            Call::Bill | Call::Close => {
+                let slow = if matches!(door, Door::Program(_)) { EMULATED } else { 1 };
+                histories::compare(door, &mut seeded, call == Call::Close, count / part / slow)?
+            }
+            _ => {
+                let mut tally = every_length(door, &mut seeded, call)?;
+                tally.add(&random(door, &mut seeded, call, count / part)?);
+                tally
+            }
         };
         println!("  {name}: {tally}");
         compared += tally.total();
@@ -183,7 +192,7 @@ fn sizes(call: Call) -> [usize; 4] {
         Call::Lift => [4, 2, 4, 1],
         Call::Line | Call::Block => [1, 1, 8, 1],
         Call::RegisterOpen | Call::Bill => [size_of::<Register>(), 1, 4, 4],
-        Call::Owed => [size_of::<Register>(), 4, 1, 1],
+        Call::Owed | Call::Close => [size_of::<Register>(), 4, 1, 1],
         _ => [4, 4, 4, 1],
     }
 }
@@ -206,7 +215,7 @@ pub fn shown(frame: &Frame) -> String {
                 write!(text, "{:x?}", frame.array::<u32>(which))
             }
             (_, 4) => write!(text, "{:?}", frame.array::<i32>(which)),
-            (Call::Bill | Call::Owed, _) => {
+            (Call::Bill | Call::Owed | Call::Close, _) => {
                 write!(text, "count {}", frame.array::<Register>(which)[0].count)
             }
             _ => write!(text, "(junk)"),

@@ -22,6 +22,7 @@ pub struct Calls<R> {
     register_open: fn(&mut R) -> u32,
     bill: fn(&mut R, u64, &[u8], u32, &[i32], u32, u32, &mut [i32]) -> u32,
     owed: fn(&R, u64, &mut [i32]) -> u32,
+    close: fn(&mut R, u64, &mut [i32]) -> u32,
 }
 
 macro_rules! calls_of {
@@ -44,6 +45,7 @@ macro_rules! calls_of {
             register_open,
             bill,
             owed,
+            close,
         }
     }};
 }
@@ -115,6 +117,10 @@ impl<R: Element> Calls<R> {
             Call::Owed => {
                 let (register, out, _) = frame.arrays::<R, _, u8>();
                 (self.owed)(&register[0], a, out)
+            }
+            Call::Close => {
+                let (register, out, _) = frame.arrays::<R, _, u8>();
+                (self.close)(&mut register[0], a, out)
             }
         }
     }

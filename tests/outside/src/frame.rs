@@ -24,6 +24,7 @@ pub enum Call {
     RegisterOpen,
     Bill,
     Owed,
+    Close,
 }
 
 /// An array in the memory of a frame: where it starts, in bytes, and how many elements it has.

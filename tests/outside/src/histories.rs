@@ -1,7 +1,11 @@
 //! Histories of calls on a register: opened empty, nearly full, full of junk, damaged.
 
+mod closings;
+
+use crate::accounts::Accounts;
 use crate::compare::Tally;
 use crate::doors::Door;
+use crate::frame::Call;
 use crate::ledger::{Asked, Ledger};
 use crate::seeded::Seeded;
 use crate::sets::{accepted, of_length, KINDS, OUTSIDE};
@@ -17,8 +21,14 @@ const SHORT_KEYS: [&[u8]; 7] =
 /// Bytes beside those that a key may have, and some of them with their highest bit set.
 const ODD_BYTES: &[u8] = b"/:@[`{ ,._\0\n\x7f\x80\xad\xb0\xc1\xe1\xff";
 
-/// Compares every byte, length and kind, then so many calls in histories of every sort.
-pub fn compare(door: &mut Door, seeded: &mut Seeded, count: usize) -> Result<Tally, String> {
+/// Compares so many calls in histories of every sort; without closings every byte, length and kind
+/// before that.
+pub fn compare(
+    door: &mut Door,
+    seeded: &mut Seeded,
+    closes: bool,
+    count: usize,
+) -> Result<Tally, String> {
     let mut tally = Tally::of(&[]);
     let mut ledger = Ledger::new(seeded);
     for number in 0.. {
@@ -30,11 +40,17 @@ pub fn compare(door: &mut Door, seeded: &mut Seeded, count: usize) -> Result<Tal
             door,
             seeded,
             ledger: &mut ledger,
+            accounts: Accounts::default(),
             customers,
+            closes,
             sent: vec![],
             tally: &mut tally,
         };
-        let compared = if number == 0 { history.every_byte() } else { history.run() };
+        let compared = match number {
+            _ if closes => history.run_with_closings(),
+            0 => history.every_byte(),
+            _ => history.run(),
+        };
         compared.map_err(|difference| format!("history {number}: {difference}"))?;
     }
     Ok(tally)
@@ -56,7 +72,10 @@ struct History<'a> {
     door: &'a mut Door,
     seeded: &'a mut Seeded,
     ledger: &'a mut Ledger,
+    accounts: Accounts,
     customers: Vec<u64>,
+    /// Whether customers are closed.
+    closes: bool,
     /// The calls that may have been accepted.
     sent: Vec<Asked>,
     tally: &'a mut Tally,
@@ -75,6 +94,7 @@ impl History<'_> {
 
     fn open(&mut self) -> Result<(), String> {
         self.ledger.open(self.door, self.seeded)?;
+        self.accounts = Accounts::default();
         self.sent.clear();
         Ok(())
     }
@@ -116,6 +136,7 @@ impl History<'_> {
         self.ledger.register().count = self.seeded.below(ENTRIES + 2) as u64;
         self.calls(5)?;
         self.ledger.register().count = 0;
+        self.accounts = Accounts::default();
         self.calls(15)
     }
 
@@ -148,13 +169,25 @@ impl History<'_> {
     fn bill(&mut self, asked: &Asked, places: usize) -> Result<(), String> {
         let returned = self.ledger.bill(self.door, self.seeded, asked, places)?;
         self.tally.add(&Tally::of(&[returned]));
+        if returned == 0 {
+            self.accounts.charge(asked.customer, self.ledger.frame().array(3)[6]);
+        }
         Ok(())
     }
 
-    fn owed(&mut self, customer: u64, places: usize) -> Result<(), String> {
-        let returned = self.ledger.owed(self.door, self.seeded, customer, places)?;
+    /// A customer's total, owed or closed.
+    fn total(&mut self, call: Call, customer: u64, places: usize) -> Result<(), String> {
+        let returned = self.ledger.total(self.door, self.seeded, call, customer, places)?;
         self.tally.add(&Tally::of(&[returned]));
-        Ok(())
+        if returned != 0 {
+            return Ok(());
+        }
+        let total = self.ledger.frame().array(1)[0];
+        if call == Call::Owed {
+            return self.accounts.settle(customer, total);
+        }
+        self.accounts.hand_out(customer, total);
+        self.owed_after_closing(customer)
     }
 
     fn calls(&mut self, count: usize) -> Result<(), String> {
@@ -164,10 +197,10 @@ impl History<'_> {
     /// Any call.
     fn call(&mut self) -> Result<(), String> {
         if self.seeded.chance(8) {
-            let (known, any) = (self.customer(), self.seeded.next());
-            let customer = self.seeded.pick(&[known, known, known, any]);
-            let places = self.seeded.pick(&[1, 1, 1, 1, 0, 5]);
-            return self.owed(customer, places);
+            return self.any_total(Call::Owed);
+        }
+        if self.closes && self.seeded.chance(8) {
+            return self.any_total(Call::Close);
         }
         let which = if self.sent.is_empty() { 0 } else { self.seeded.below(8) };
         let mut asked = match which {
@@ -181,6 +214,14 @@ impl History<'_> {
         let few = self.seeded.below(10);
         let places = self.seeded.pick(&[7, 7, 7, 7, 7, 7, 7, 7, 20, few]);
         self.bill(&asked, places)
+    }
+
+    /// The total of any customer.
+    fn any_total(&mut self, call: Call) -> Result<(), String> {
+        let (known, any) = (self.customer(), self.seeded.next());
+        let customer = self.seeded.pick(&[known, known, known, any]);
+        let places = self.seeded.pick(&[1, 1, 1, 1, 0, 5]);
+        self.total(call, customer, places)
     }
 
     fn customer(&mut self) -> u64 {
@@ -279,8 +320,10 @@ impl History<'_> {
         if junk {
             *self.ledger = Ledger::new(self.seeded);
         }
+        self.accounts = Accounts::default();
         for (place, asked) in self.sent.iter().enumerate() {
             self.ledger.register().entries[place] = entry_of(self.seeded, asked, junk);
+            self.accounts.charge(asked.customer, asked.price as i32);
         }
         self.ledger.register().count = count as u64;
     }

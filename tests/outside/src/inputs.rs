@@ -36,7 +36,9 @@ pub fn frame(seeded: &mut Seeded, call: Call, lengths: Lengths) -> Frame {
         Call::Lift => lift(seeded, lengths),
         Call::Line => line(seeded, lengths),
         Call::Block => unreachable!("blocks come in streams"),
-        Call::RegisterOpen | Call::Bill | Call::Owed => unreachable!("bills come in histories"),
+        Call::RegisterOpen | Call::Bill | Call::Owed | Call::Close => {
+            unreachable!("calls on a register come in histories")
+        }
     }
 }
 

@@ -80,15 +80,16 @@ impl Ledger {
         })
     }
 
-    /// A customer's total, to an output of so many places.
-    pub fn owed(
+    /// A call for a customer's total, owed or closed, to an output of so many places.
+    pub fn total(
         &mut self,
         door: &mut Door,
         seeded: &mut Seeded,
+        call: Call,
         customer: u64,
         places: usize,
     ) -> Result<u32, String> {
-        self.make(door, seeded, Call::Owed, |builder| builder.number(customer).lend::<i32>(places))
+        self.make(door, seeded, call, |builder| builder.number(customer).lend::<i32>(places))
     }
 
     /// Makes a call both ways: what it returned. All memory has to be left the same, and a refused

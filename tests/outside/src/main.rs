@@ -10,6 +10,7 @@
 //! `door` names a program that speaks as door.c does, to be compared in place of the archive that
 //! this one is linked with. `calls` names the calls to compare, `part` makes 1/N of their inputs.
 
+mod accounts;
 mod cases;
 mod compare;
 mod doors;

@@ -1,12 +1,13 @@
 //! Steps on a register (tests/reference/inputs/histories.py), answered through the door.
 //!
 //! A step is words parted by one space: `open`; `put PLACE DATA`; `bill CUSTOMER KEY KIND MARKS PRICE
-//! PLACES VALUE..`; `owed CUSTOMER PLACES`; `read`. Data and keys are in hexadecimal, `-` for none.
-//! A call is answered as a case is, and then each run of bytes that it changed in the register:
-//! `@PLACE:DATA`.
+//! PLACES VALUE..`; `owed CUSTOMER PLACES`; `close CUSTOMER PLACES`; `read`. Data and keys are in
+//! hexadecimal, `-` for none. A call is answered as a case is, and then each run of bytes that it
+//! changed in the register: `@PLACE:DATA`.
 
 use crate::cases::answer_of;
 use crate::doors::Door;
+use crate::frame::Call;
 use crate::ledger::{Asked, Ledger};
 use crate::seeded::Seeded;
 use std::fmt::{Debug, Write};
@@ -70,8 +71,10 @@ pub fn answers(door: &mut Door, steps: &str) -> Result<String, String> {
                 let returned = ledger.bill(door, seeded, &asked, number(places))?;
                 answer_of(returned, ledger.frame()) + &changes(ledger.bytes())
             }
-            ["owed", customer, places] => {
-                let returned = ledger.owed(door, seeded, number(customer), number(places))?;
+            [word @ ("owed" | "close"), customer, places] => {
+                let call = if word == "owed" { Call::Owed } else { Call::Close };
+                let (customer, places) = (number(customer), number(places));
+                let returned = ledger.total(door, seeded, call, customer, places)?;
                 answer_of(returned, ledger.frame()) + &changes(ledger.bytes())
             }
             _ => panic!("{line} is no step"),

@@ -6,26 +6,28 @@ A step is a word and what goes with it:
   put place data       its bytes from a place on are replaced
   bill call places     a call, with an output of so many places
   owed customer places
+  close customer places
   read                 all bytes are shown
 """
 
 from imbrolt.quantities import BandSet, KINDS
 from imbrolt.register import (
-    COUNT, COUNT_AT, Call, ENTRY, Entry, GREATEST_PRICE, MOST_ENTRIES, SIZE, bill_in,
-    bytes_of_entry, open_in, owed_in)
+    BILL_PLACES, CLOSE_PLACES, COUNT, COUNT_AT, Call, ENTRY, Entry, GREATEST_PRICE, MOST_ENTRIES,
+    SIZE, bill_in, bytes_of_entry, close_in, open_in, owed_in)
 
 from .curves import limit_marks
 from .ratings import OUT_OF_RANGE, word
 from .requests import KEYS as ODD_KEYS, KEY_BYTES, any_key, any_values
 
 
+CALLS = {"bill": bill_in, "owed": owed_in, "close": close_in}
+
+
 def taken(memory, step):
     """Takes a step on the bytes of a register; what its call answers, if it is one."""
     name, *rest = step
-    if name == "bill":
-        return bill_in(memory, *rest)
-    if name == "owed":
-        return owed_in(memory, *rest)
+    if name in CALLS:
+        return CALLS[name](memory, *rest)
     if name == "open":
         open_in(memory)
     elif name == "put":
@@ -112,17 +114,35 @@ class Caller:
         values[seeded.below(len(values))] = seeded.pick(OUT_OF_RANGE)
         return call._replace(band_set=BandSet(tuple(values), band_set.marks, len(values)))
 
+    def total(self, word):
+        """A step that asks for a total: of one of the customers, or of any number."""
+        seeded = self.seeded
+        customer = seeded.pick((self.customer(), seeded.next()))
+        return word, customer, 0 if seeded.chance(8) else seeded.between(1, 3)
+
     def step(self):
         """A step with any call."""
         seeded = self.seeded
         if seeded.chance(8):
-            customer = seeded.pick((self.customer(), seeded.next()))
-            return "owed", customer, 0 if seeded.chance(8) else seeded.between(1, 3)
+            return self.total("owed")
         make = seeded.pick((self.new, self.new, self.again, self.again, self.otherwise))
         call = make() if self.sent else self.new()
         while seeded.chance(5):
             call = self.faulty(call)
         return "bill", call, seeded.below(9) if seeded.chance(8) else 7
+
+
+class Closer(Caller):
+    """One that closes customers, too; keys from before a closing are sent again after it."""
+
+    def step(self):
+        return self.total("close") if self.seeded.chance(6) else super().step()
+
+    def month_end(self):
+        """Some of the customers are closed, the first of them twice in a row."""
+        count = self.seeded.between(1, min(4, len(self.customers)))
+        closed = self.seeded.some(count, self.customers)
+        return [("close", customer, CLOSE_PLACES) for customer in closed[:1] + closed]
 
 
 def wrong_key(seeded, key):
@@ -245,18 +265,37 @@ def random_history(seeded, caller):
     return steps + [count_put(0), *calls_of(caller, 12)]
 
 
-SORTS = ((opened_history, 24), (filled_history, 24), (full_history, 8), (damaged_history, 40),
-         (random_history, 2))
+def months_history(_seeded, closer):
+    return [("open",)] + [step for _ in range(4)
+                          for step in calls_of(closer, 15) + closer.month_end()]
+
+
+def refilled_history(seeded, closer):
+    """Full; a customer is closed, whose keys come with other bands until it is full again."""
+    steps = filled(seeded, closer, MOST_ENTRIES)
+    customer = closer.customer()
+    closed = [call for call in closer.sent if call.customer == customer]
+    others = [call for call in closer.sent if call.customer != customer]
+    new = [closer.new()._replace(customer=customer, key=call.key) for call in closed]
+    closer.sent = others + new
+    steps += 2 * [("close", customer, CLOSE_PLACES)]
+    steps += [("bill", call, BILL_PLACES) for call in new + [closer.new(), closer.new()]]
+    return steps + calls_of(closer, 20)
+
+
+SORTS = ((Caller, opened_history, 24), (Caller, filled_history, 24), (Caller, full_history, 8),
+         (Caller, damaged_history, 40), (Caller, random_history, 2),
+         (Closer, months_history, 24), (Closer, filled_history, 24), (Closer, full_history, 4),
+         (Closer, refilled_history, 2), (Closer, damaged_history, 24), (Closer, random_history, 1))
 
 
 def histories(seeded, times=1):
     """Histories of every sort, of few customers and of many."""
     made = []
-    for sort, count in SORTS:
+    for sender, sort, count in SORTS:
         for _ in range(times * count):
             number = seeded.pick((1, 2, 3, 40))
             customers = [seeded.pick((place, 2 ** 32 + place, seeded.next()))
                          for place in range(number)]
-            caller = Caller(seeded, customers)
-            made.append(sort(seeded, caller) + [("read",)])
+            made.append(sort(seeded, sender(seeded, customers)) + [("read",)])
     return made

@@ -184,3 +184,12 @@ pub fn bill(
 pub fn owed(register: &Register, customer: u64, out: &mut [i32]) -> u32 {
     put(register.owed(customer).map(|total| [total as i32]), out)
 }
+
+/// The total of a customer, whose entries go.
+pub fn close(register: &mut Register, customer: u64, out: &mut [i32]) -> u32 {
+    let returned = owed(register, customer, out);
+    if returned == 0 {
+        register.close(customer);
+    }
+    returned
+}
