@@ -30,7 +30,7 @@ pub const PLAN: [(Call, &str, usize); 15] = [
 
 /// A program speaks for a machine that is emulated, where a call on a register takes milliseconds:
 /// of those calls it is asked one in so many.
-const EMULATED: usize = 10;
+const EMULATED: usize = 20;
 
 /// Frames are made and sent so many at a time.
 const BATCH: usize = 500;
