@@ -24,21 +24,18 @@ abbrev put-decimal-below : ℕ → In 1 put-decimal-kinds.ps
 put-decimal-below t =
     and 1 put-decimal-kinds.ps (falls 1 put-decimal-kinds.ps _<_ μ-put-decimal t) put-decimal.Pre
 
--- src/texts.rt:77:23
 put-decimal-cast-out : (t : ℕ) → put-decimal-lts.Need-cast-out (
   put-decimal-below t,
   put-decimal.Post,
 ) (put-decimal-at t) put-decimal.Post
 put-decimal-cast-out t c = omega arith
 
--- src/texts.rt:77:18
 put-decimal-add-out : (t : ℕ) → put-decimal-lts.Need-add-out (
   put-decimal-below t,
   put-decimal.Post,
 ) (put-decimal-at t) put-decimal.Post
 put-decimal-add-out t c = omega arith
 
--- src/texts.rt:77:9
 put-decimal-slice-write-out : (t : ℕ) → put-decimal-lts.Need-slice-write-out (
   put-decimal-below t,
   put-decimal.Post,
@@ -47,14 +44,12 @@ put-decimal-slice-write-out t c =
     let a = c .before .before .args in
     omega (arith, one-length (a .n) (c .if1 .taken), c .before .before .pre .1)
 
--- src/texts.rt:78:9
 put-decimal-same-length : (t : ℕ) → put-decimal-lts.Need-same-length (
   put-decimal-below t,
   put-decimal.Post,
 ) (put-decimal-at t) put-decimal.Post
 put-decimal-same-length t c = simp length-set
 
--- src/texts.rt:78:9
 put-decimal-returns : (t : ℕ) → put-decimal-lts.Need-returns (
   put-decimal-below t,
   put-decimal.Post,
@@ -63,21 +58,18 @@ put-decimal-returns t c =
     let a = c .before .before .args in
     (one-length (a .n) (c .if1 .taken), digits-one (a .n) (a .out .now) (c .if1 .taken) (omega (arith, one-length (a .n) (c .if1 .taken), c .before .before .pre .1)))
 
--- src/texts.rt:81:23
 put-decimal-cast-out-2 : (t : ℕ) → put-decimal-lts.Need-cast-out-2 (
   put-decimal-below t,
   put-decimal.Post,
 ) (put-decimal-at t) put-decimal.Post
 put-decimal-cast-out-2 t c = omega arith
 
--- src/texts.rt:81:18
 put-decimal-add-out-2 : (t : ℕ) → put-decimal-lts.Need-add-out-2 (
   put-decimal-below t,
   put-decimal.Post,
 ) (put-decimal-at t) put-decimal.Post
 put-decimal-add-out-2 t c = omega arith
 
--- src/texts.rt:81:9
 put-decimal-slice-write-out-2 : (t : ℕ) → put-decimal-lts.Need-slice-write-out-2 (
   put-decimal-below t,
   put-decimal.Post,
@@ -86,21 +78,18 @@ put-decimal-slice-write-out-2 t c =
     let a = c .before .before .before .args in
     omega (arith, two-length (a .n) (c .before .if1 .left) (c .if2 .taken), c .before .before .before .pre .1)
 
--- src/texts.rt:82:23
 put-decimal-cast-out-3 : (t : ℕ) → put-decimal-lts.Need-cast-out-3 (
   put-decimal-below t,
   put-decimal.Post,
 ) (put-decimal-at t) put-decimal.Post
 put-decimal-cast-out-3 t c = omega arith
 
--- src/texts.rt:82:18
 put-decimal-add-out-3 : (t : ℕ) → put-decimal-lts.Need-add-out-3 (
   put-decimal-below t,
   put-decimal.Post,
 ) (put-decimal-at t) put-decimal.Post
 put-decimal-add-out-3 t c = omega arith
 
--- src/texts.rt:82:9
 put-decimal-slice-write-out-3 : (t : ℕ) → put-decimal-lts.Need-slice-write-out-3 (
   put-decimal-below t,
   put-decimal.Post,
@@ -109,14 +98,12 @@ put-decimal-slice-write-out-3 t c =
     let a = c .before .before .before .args in
     simp length-set (omega (arith, two-length (a .n) (c .before .if1 .left) (c .if2 .taken), c .before .before .before .pre .1))
 
--- src/texts.rt:83:9
 put-decimal-same-length-2 : (t : ℕ) → put-decimal-lts.Need-same-length-2 (
   put-decimal-below t,
   put-decimal.Post,
 ) (put-decimal-at t) put-decimal.Post
 put-decimal-same-length-2 t c = simp length-set
 
--- src/texts.rt:83:9
 put-decimal-returns-2 : (t : ℕ) → put-decimal-lts.Need-returns-2 (
   put-decimal-below t,
   put-decimal.Post,
@@ -125,7 +112,6 @@ put-decimal-returns-2 t c =
     let a = c .before .before .before .args in
     (two-length (a .n) (c .before .if1 .left) (c .if2 .taken), digits-two (a .n) (a .out .now) (c .before .if1 .left) (c .if2 .taken) (omega (arith, two-length (a .n) (c .before .if1 .left) (c .if2 .taken), c .before .before .before .pre .1)))
 
--- src/texts.rt:85:9
 put-decimal-put-decimal-requires : (t : ℕ) → put-decimal-lts.Need-put-decimal-requires (
   put-decimal-below t,
   put-decimal.Post,
@@ -134,21 +120,18 @@ put-decimal-put-decimal-requires t c κs =
     let a = c .before .before .before .before .args in
     (omega (arith, c .before .before .before .before .pre .0), omega (arith, more-length (a .n) (omega arith), c .before .before .before .before .pre .1))
 
--- src/texts.rt:86:19
 put-decimal-cast-out-4 : (t : ℕ) → put-decimal-lts.Need-cast-out-4 (
   put-decimal-below t,
   put-decimal.Post,
 ) (put-decimal-at t) put-decimal.Post
 put-decimal-cast-out-4 t c = omega arith
 
--- src/texts.rt:86:14
 put-decimal-add-out-4 : (t : ℕ) → put-decimal-lts.Need-add-out-4 (
   put-decimal-below t,
   put-decimal.Post,
 ) (put-decimal-at t) put-decimal.Post
 put-decimal-add-out-4 t c = omega arith
 
--- src/texts.rt:86:5
 put-decimal-slice-write-out-4 : (t : ℕ) → put-decimal-lts.Need-slice-write-out-4 (
   put-decimal-below t,
   put-decimal.Post,
@@ -159,7 +142,6 @@ put-decimal-slice-write-out-4 t c =
     let h = more-length (a .n) (omega arith) in
     omega (arith, d .ensures .0, ap length (d .ensures .1) ∙ front-length (decimal (a .n / 10)) (a .out .now) (omega (arith, c .before .before .before .before .before .before .before .pre .1)), c .before .before .before .before .before .before .before .pre .1)
 
--- src/texts.rt:87:5
 put-decimal-add-result : (t : ℕ) → put-decimal-lts.Need-add-result (
   put-decimal-below t,
   put-decimal.Post,
@@ -170,7 +152,6 @@ put-decimal-add-result t c =
     let h = more-length (a .n) (omega arith) in
     omega (arith, d .ensures .0, c .before .before .before .before .before .before .before .pre .1)
 
--- src/texts.rt:71:1
 put-decimal-same-length-3 : (t : ℕ) → put-decimal-lts.Need-same-length-3 (
   put-decimal-below t,
   put-decimal.Post,
@@ -181,7 +162,6 @@ put-decimal-same-length-3 t c =
     let h = more-length (a .n) (omega arith) in
     length-set (d .last .1 .0) (d .result) (48 + a .n % 10) ∙ ap length (d .ensures .1) ∙ front-length (decimal (a .n / 10)) (a .out .now) (omega (arith, c .before .before .before .before .before .before .before .pre .1))
 
--- src/texts.rt:71:1
 put-decimal-returns-3 : (t : ℕ) → put-decimal-lts.Need-returns-3 (
   put-decimal-below t,
   put-decimal.Post,

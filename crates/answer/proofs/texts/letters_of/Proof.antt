@@ -2,35 +2,27 @@ use borrow.Author.Needs.{needs}
 use Rattle.answer.proofs.texts.letters_of.Statement.{statement}
 use Rattle.answer.proofs.texts.letters_of.Tie as tie
 
--- src/texts.rt:127:21
 enum-told : tie.Need-enum-told
 enum-told c = search needs
 
--- src/texts.rt:128:21
 enum-told-2 : tie.Need-enum-told-2
 enum-told-2 c = search needs
 
--- src/texts.rt:129:21
 enum-told-3 : tie.Need-enum-told-3
 enum-told-3 c = search needs
 
--- src/texts.rt:130:21
 enum-told-4 : tie.Need-enum-told-4
 enum-told-4 c = search needs
 
--- src/texts.rt:123:1
 returns : tie.Need-returns
 returns c = cc
 
--- src/texts.rt:123:1
 returns-2 : tie.Need-returns-2
 returns-2 c = cc
 
--- src/texts.rt:123:1
 returns-3 : tie.Need-returns-3
 returns-3 c = cc
 
--- src/texts.rt:123:1
 returns-4 : tie.Need-returns-4
 returns-4 c = cc
 

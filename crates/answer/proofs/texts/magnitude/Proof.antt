@@ -6,20 +6,17 @@ use lib.IntN.{pos, _+ℤ_}
 use Rattle.answer.proofs.texts.magnitude.Statement.{statement}
 use Rattle.answer.proofs.texts.magnitude.Tie as tie
 
--- src/texts.rt:56:11
 add-below : tie.Need-add-below
 add-below c =
     let z = c .args .z in
     rw (toZ-ofZ (c .fits .z)) (fits-made (omega (arith, succ-below z (c .pre) (fits-read (c .fits .z) .1))) (omega (arith, succ-below z (c .pre) (fits-read (c .fits .z) .1), fits-read (c .fits .z))))
 
--- src/texts.rt:56:5
 below-requires : tie.Need-below-requires
 below-requires c κs =
     let z = c .args .z in
     let h = succ-below z (c .pre) (fits-read (c .fits .z) .1) in
     rw (toZ-ofZ (c .fits .z)) (rw (toZ-ofZ (fits-made {z = z +ℤ pos 1} (omega arith) (omega (arith, fits-read (c .fits .z))))) (omega arith, omega (arith, fits-read (c .fits .z))))
 
--- src/texts.rt:56:5
 add-result : tie.Need-add-result
 add-result c =
     let z = c .before .args .z in
@@ -28,7 +25,6 @@ add-result c =
     let small = fits-made {z = z +ℤ pos 1} (omega arith) (omega (arith, fits-read (c .before .fits .z))) in
     omega (arith, rw (toZ-ofZ small) at (rw b at (c .below .ensures)), fits-read (c .before .fits .z))
 
--- src/texts.rt:52:1
 returns : tie.Need-returns
 returns c =
     let z = c .before .args .z in

@@ -11,21 +11,17 @@ use borrow.Author.Needs.{needs}
 use Rattle.answer.proofs.texts.number_len.Statement.{statement}
 use Rattle.answer.proofs.texts.number_len.Tie as tie
 
--- src/texts.rt:65:32
 magnitude-requires : tie.Need-magnitude-requires
 magnitude-requires c κs =
     let z = c .before .args .z in
     rw (toZ-ofZ (c .before .fits .z)) (omega (ints, rw (toZ-ofZ (c .before .fits .z)) at (c .if1 .taken)))
 
--- src/texts.rt:65:20
 decimal-len-requires : tie.Need-decimal-len-requires
 decimal-len-requires c κs = search needs
 
--- src/texts.rt:65:16
 add-result : tie.Need-add-result
 add-result c = omega arith
 
--- src/texts.rt:65:9
 returns : tie.Need-returns
 returns c =
     let z = c .before .before .before .args .z in
@@ -34,17 +30,14 @@ returns c =
     let m : c .before .magnitude .result ≡ N z = c .before .magnitude .ensures ∙ ap N b in
     (omega (arith, below-length z neg, ap (λ k. length (decimal k)) m), omega arith)
 
--- src/texts.rt:67:17
 above-requires : tie.Need-above-requires
 above-requires c κs =
     let z = c .before .args .z in
     rw (toZ-ofZ (c .before .fits .z)) (omega (ints, apart z, rw (toZ-ofZ (c .before .fits .z)) at (c .if1 .left)), omega (ints, fits-read (c .before .fits .z)))
 
--- src/texts.rt:67:5
 decimal-len-requires-2 : tie.Need-decimal-len-requires-2
 decimal-len-requires-2 c κs = search needs
 
--- src/texts.rt:60:1
 returns-2 : tie.Need-returns-2
 returns-2 c =
     let z = c .before .before .before .args .z in

@@ -9,11 +9,9 @@ use borrow.Author.Needs.{needs}
 use Rattle.answer.proofs.texts.put_count.Statement.{statement}
 use Rattle.answer.proofs.texts.put_count.Tie as tie
 
--- src/texts.rt:165:5
 slice-write-out : tie.Need-slice-write-out
 slice-write-out c = search needs
 
--- src/texts.rt:166:24
 sub-put-decimal : tie.Need-sub-put-decimal
 sub-put-decimal c =
     let a = c .before .args in
@@ -21,7 +19,6 @@ sub-put-decimal c =
     let e = stored1 l 9 (omega (arith, c .before .pre)) in
     tail-within (9 ∷ []) l 1 e refl (omega (arith, c .before .pre))
 
--- src/texts.rt:166:24
 part-put-decimal-start : tie.Need-part-put-decimal-start
 part-put-decimal-start c =
     let a = c .before .args in
@@ -29,11 +26,9 @@ part-put-decimal-start c =
     let e = stored1 l 9 (omega (arith, c .before .pre)) in
     tail-within (9 ∷ []) l 1 e refl (omega (arith, c .before .pre))
 
--- src/texts.rt:166:24
 part-put-decimal-end : tie.Need-part-put-decimal-end
 part-put-decimal-end c = search needs
 
--- src/texts.rt:166:9
 put-decimal-requires : tie.Need-put-decimal-requires
 put-decimal-requires c κs =
     let a = c .before .before .args in
@@ -41,11 +36,9 @@ put-decimal-requires c κs =
     let e = stored1 l 9 (omega (arith, c .before .before .pre)) in
     omega (arith, c .before .before .pre, tail-length (9 ∷ []) l 1 e refl (omega (arith, c .before .before .pre)))
 
--- src/texts.rt:166:5
 add-result : tie.Need-add-result
 add-result c = search needs
 
--- src/texts.rt:160:1
 returns : tie.Need-returns
 returns c =
     let a = c .before .before .before .before .before .args in
@@ -53,7 +46,6 @@ returns c =
     let e = stored1 l 9 (omega (arith, c .before .before .before .before .before .pre)) in
     (omega (arith, c .before .before .put-decimal .ensures .0), tail-home (9 ∷ []) l 1 e refl (omega (arith, c .before .before .before .before .before .pre)) (decimal (a .n)) (c .before .before .put-decimal .ensures .1))
 
--- src/texts.rt:160:1
 same-length : tie.Need-same-length
 same-length c =
     let a = c .before .before .before .before .before .args in

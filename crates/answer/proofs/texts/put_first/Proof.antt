@@ -11,7 +11,6 @@ use borrow.Author.Needs.{needs}
 use Rattle.answer.proofs.texts.put_first.Statement.{statement}
 use Rattle.answer.proofs.texts.put_first.Tie as tie
 
--- src/texts.rt:211:9
 put-number-requires : tie.Need-put-number-requires
 put-number-requires c κs =
     let a = c .before .before .before .before .args in
@@ -21,7 +20,6 @@ put-number-requires c κs =
     let q = c .before .before .before .before .pre in
     rw (back (sh .first .0) (c .struct-told .given .0 .1)) (omega arith)
 
--- src/texts.rt:212:23
 sub-put-second : tie.Need-sub-put-second
 sub-put-second c =
     let a = c .before .before .before .before .before .before .before .args in
@@ -35,7 +33,6 @@ sub-put-second c =
     let k = d .ensures .0 ∙ ap (λ z. 1 + length (numberText z)) b in
     tail-within (9 ∷ numberText (sh .first .0)) l (d .result) e (omega arith) (omega arith)
 
--- src/texts.rt:212:23
 part-put-second-start : tie.Need-part-put-second-start
 part-put-second-start c =
     let a = c .before .before .before .before .before .before .before .args in
@@ -49,11 +46,9 @@ part-put-second-start c =
     let k = d .ensures .0 ∙ ap (λ z. 1 + length (numberText z)) b in
     tail-within (9 ∷ numberText (sh .first .0)) l (d .result) e (omega arith) (omega arith)
 
--- src/texts.rt:212:23
 part-put-second-end : tie.Need-part-put-second-end
 part-put-second-end c = search needs
 
--- src/texts.rt:212:5
 put-second-requires : tie.Need-put-second-requires
 put-second-requires c κs =
     let a = c .before .before .before .before .before .before .before .before .args in
@@ -67,7 +62,6 @@ put-second-requires c κs =
     let k = d .ensures .0 ∙ ap (λ z. 1 + length (numberText z)) b in
     omega (arith, tail-length (9 ∷ numberText (sh .first .0)) l (d .result) e (omega arith) (omega arith))
 
--- src/texts.rt:206:1
 returns : tie.Need-returns
 returns c =
     let a = c .before .before .before .before .before .before .before .before .before .before .before .args in
@@ -81,7 +75,6 @@ returns c =
     let k = d .ensures .0 ∙ ap (λ z. 1 + length (numberText z)) b in
     field-front (numberText (sh .first .0)) (secondFields sh) l (tail-home (9 ∷ numberText (sh .first .0)) l (d .result) e (omega arith) (omega arith) (others (secondFields sh)) (c .before .before .put-second .ensures))
 
--- src/texts.rt:206:1
 same-length : tie.Need-same-length
 same-length c = search needs
 

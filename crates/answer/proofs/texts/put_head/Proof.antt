@@ -9,23 +9,18 @@ use borrow.Author.Needs.{needs}
 use Rattle.answer.proofs.texts.put_head.Statement.{statement}
 use Rattle.answer.proofs.texts.put_head.Tie as tie
 
--- src/texts.rt:153:9
 letters-of-requires : tie.Need-letters-of-requires
 letters-of-requires c κs = search needs
 
--- src/texts.rt:154:5
 slice-write-out : tie.Need-slice-write-out
 slice-write-out c = search needs
 
--- src/texts.rt:155:5
 slice-write-out-2 : tie.Need-slice-write-out-2
 slice-write-out-2 c = simp length-set (omega arith)
 
--- src/texts.rt:156:5
 slice-write-out-3 : tie.Need-slice-write-out-3
 slice-write-out-3 c = simp length-set (omega arith)
 
--- src/texts.rt:157:26
 sub-put-key : tie.Need-sub-put-key
 sub-put-key c =
     let a = c .before .before .before .args in
@@ -34,7 +29,6 @@ sub-put-key c =
     let e = stored3 (a .out .now) (r .0) (r .1) 9 (omega (arith, c .before .before .before .pre .1)) in
     tail-within t (a .out .now) 3 e refl (omega (arith, c .before .before .before .pre .1))
 
--- src/texts.rt:157:26
 part-put-key-start : tie.Need-part-put-key-start
 part-put-key-start c =
     let a = c .before .before .before .args in
@@ -43,11 +37,9 @@ part-put-key-start c =
     let e = stored3 (a .out .now) (r .0) (r .1) 9 (omega (arith, c .before .before .before .pre .1)) in
     tail-within t (a .out .now) 3 e refl (omega (arith, c .before .before .before .pre .1))
 
--- src/texts.rt:157:26
 part-put-key-end : tie.Need-part-put-key-end
 part-put-key-end c = search needs
 
--- src/texts.rt:157:5
 put-key-requires : tie.Need-put-key-requires
 put-key-requires c κs =
     let a = c .before .before .before .before .args in
@@ -56,7 +48,6 @@ put-key-requires c κs =
     let e = stored3 (a .out .now) (r .0) (r .1) 9 (omega (arith, c .before .before .before .before .pre .1)) in
     (c .before .before .before .before .pre .0, omega (arith, c .before .before .before .before .pre .1, tail-length t (a .out .now) 3 e refl (omega (arith, c .before .before .before .before .pre .1))))
 
--- src/texts.rt:148:1
 returns : tie.Need-returns
 returns c =
     let a = c .before .before .before .before .before .before .before .args in
@@ -66,7 +57,6 @@ returns c =
     tail-home t (a .out .now) 3 e refl (omega (arith, c .before .before .before .before .before .before .before .pre .1)) (take (a .len) (drop (a .key) (a .s .now))) (c .before .before .put-key .ensures)
     ∙ ap (λ k. front (k ++ (9 ∷ take (a .len) (drop (a .key) (a .s .now)))) (a .out .now)) (sym (c .before .before .before .before .letters-of .ensures))
 
--- src/texts.rt:148:1
 same-length : tie.Need-same-length
 same-length c =
     let a = c .before .before .before .before .before .before .before .args in

@@ -13,48 +13,39 @@ Inv-loop s key len out₀ i₀ out i = (i ≤ len) × (out ≡ front (take i (dr
 abbrev μ-loop : tie.MeasureT-loop
 μ-loop s key len out₀ i₀ out i = len - i
 
--- src/texts.rt:141:5
 loop-holds : tie.Need-loop-holds Inv-loop μ-loop
 loop-holds c = (omega arith, refl)
 
--- src/texts.rt:142:20
 add-out : tie.Need-add-out Inv-loop μ-loop
 add-out c = omega arith
 
--- src/texts.rt:142:18
 shared-slice-read-out : tie.Need-shared-slice-read-out Inv-loop μ-loop
 shared-slice-read-out c = omega arith
 
--- src/texts.rt:142:9
 slice-write-out : tie.Need-slice-write-out Inv-loop μ-loop
 slice-write-out c =
     let a = c .before .before .before .args in
     let l = c .before .before .loop in
     omega (arith, key-length (a .s .now) (a .out .now) (a .key) (a .len) (c .before .before .before .pre .0) (c .before .before .before .pre .1) (l .i) (l .out) (l .inv .0) (l .inv .1))
 
--- src/texts.rt:143:9
 add-i : tie.Need-add-i Inv-loop μ-loop
 add-i c = omega arith
 
--- src/texts.rt:141:5
 loop-less : tie.Need-loop-less Inv-loop μ-loop
 loop-less c = omega arith
 
--- src/texts.rt:141:5
 loop-again : tie.Need-loop-again Inv-loop μ-loop
 loop-again c =
     let a = c .before .before .before .args in
     let l = c .before .before .loop in
     (omega arith, key-turn (a .s .now) (a .out .now) (a .key) (a .len) (c .before .before .before .pre .0) (c .before .before .before .pre .1) (l .i) (l .out) (c .before .loop-test .taken) (l .inv .1))
 
--- src/texts.rt:135:1
 same-length : tie.Need-same-length Inv-loop μ-loop
 same-length c =
     let a = c .before .before .args in
     let l = c .before .loop in
     key-length (a .s .now) (a .out .now) (a .key) (a .len) (c .before .before .pre .0) (c .before .before .pre .1) (l .i) (l .out) (l .inv .0) (l .inv .1)
 
--- src/texts.rt:135:1
 returns : tie.Need-returns Inv-loop μ-loop
 returns c =
     let a = c .before .before .args in

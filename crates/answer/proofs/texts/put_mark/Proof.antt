@@ -7,35 +7,29 @@ use borrow.Author.Needs.{needs}
 use Rattle.answer.proofs.texts.put_mark.Statement.{statement}
 use Rattle.answer.proofs.texts.put_mark.Tie as tie
 
--- src/texts.rt:181:5
 slice-write-out : tie.Need-slice-write-out
 slice-write-out c =
     let a = c .before .args in
     omega (arith, c .before .pre, others-length (setText (a .sheet .limit)) [])
 
--- src/texts.rt:182:14
 mark-requires : tie.Need-mark-requires
 mark-requires c κs = search needs
 
--- src/texts.rt:182:5
 slice-write-out-2 : tie.Need-slice-write-out-2
 slice-write-out-2 c =
     let a = c .before .before .args in
     simp length-set (omega (arith, c .before .before .pre, others-length (setText (a .sheet .limit)) [], mark-length (a .sheet .limit), end-length))
 
--- src/texts.rt:183:5
 slice-write-out-3 : tie.Need-slice-write-out-3
 slice-write-out-3 c =
     let a = c .before .before .args in
     simp length-set (omega (arith, c .before .before .pre, others-length (setText (a .sheet .limit)) [], mark-length (a .sheet .limit), end-length))
 
--- src/texts.rt:177:1
 returns : tie.Need-returns
 returns c =
     let a = c .before .before .args in
     mark-front (a .sheet .limit) (c .mark .result) (a .out .now) (c .mark .ensures) (c .before .before .pre)
 
--- src/texts.rt:177:1
 same-length : tie.Need-same-length
 same-length c = search needs
 

@@ -5,39 +5,30 @@ use borrow.Author.Needs.{needs}
 use Rattle.answer.proofs.texts.put_none.Statement.{statement}
 use Rattle.answer.proofs.texts.put_none.Tie as tie
 
--- src/texts.rt:248:5
 slice-write-out : tie.Need-slice-write-out
 slice-write-out c = search needs
 
--- src/texts.rt:249:5
 slice-write-out-2 : tie.Need-slice-write-out-2
 slice-write-out-2 c = simp length-set (omega arith)
 
--- src/texts.rt:250:5
 slice-write-out-3 : tie.Need-slice-write-out-3
 slice-write-out-3 c = simp length-set (omega arith)
 
--- src/texts.rt:251:5
 slice-write-out-4 : tie.Need-slice-write-out-4
 slice-write-out-4 c = simp length-set (omega arith)
 
--- src/texts.rt:252:5
 slice-write-out-5 : tie.Need-slice-write-out-5
 slice-write-out-5 c = simp length-set (omega arith)
 
--- src/texts.rt:253:5
 slice-write-out-6 : tie.Need-slice-write-out-6
 slice-write-out-6 c = simp length-set (omega arith)
 
--- src/texts.rt:254:5
 slice-write-out-7 : tie.Need-slice-write-out-7
 slice-write-out-7 c = search needs
 
--- src/texts.rt:244:1
 same-length : tie.Need-same-length
 same-length c = search needs
 
--- src/texts.rt:244:1
 returns : tie.Need-returns
 returns c = stored7 (c .args .out .now) (c .pre)
 

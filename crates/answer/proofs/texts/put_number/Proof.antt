@@ -14,11 +14,9 @@ use borrow.Author.Needs.{needs}
 use Rattle.answer.proofs.texts.put_number.Statement.{statement}
 use Rattle.answer.proofs.texts.put_number.Tie as tie
 
--- src/texts.rt:96:5
 slice-write-out : tie.Need-slice-write-out
 slice-write-out c = search needs
 
--- src/texts.rt:98:9
 slice-write-out-2 : tie.Need-slice-write-out-2
 slice-write-out-2 c =
     let a = c .before .before .args in
@@ -26,7 +24,6 @@ slice-write-out-2 c =
     let neg : 0 < N z = omega (ints, rw (toZ-ofZ (c .before .before .fits .z)) at (c .if1 .taken)) in
     simp length-set (omega (arith, below-length z neg, digits-some (N z), c .before .before .pre))
 
--- src/texts.rt:99:32
 magnitude-requires : tie.Need-magnitude-requires
 magnitude-requires c κs =
     let a = c .before .before .args in
@@ -38,7 +35,6 @@ magnitude-requires c κs =
     let e = stored2 l 9 45 (omega (arith, c .before .before .pre)) in
     rw b neg
 
--- src/texts.rt:99:46
 sub-put-decimal : tie.Need-sub-put-decimal
 sub-put-decimal c =
     let a = c .before .before .before .args in
@@ -50,7 +46,6 @@ sub-put-decimal c =
     let e = stored2 l 9 45 (omega (arith, c .before .before .before .pre)) in
     tail-within (9 ∷ 45 ∷ []) l 2 e refl (omega (arith, c .before .before .before .pre))
 
--- src/texts.rt:99:46
 part-put-decimal-start : tie.Need-part-put-decimal-start
 part-put-decimal-start c =
     let a = c .before .before .before .args in
@@ -62,11 +57,9 @@ part-put-decimal-start c =
     let e = stored2 l 9 45 (omega (arith, c .before .before .before .pre)) in
     tail-within (9 ∷ 45 ∷ []) l 2 e refl (omega (arith, c .before .before .before .pre))
 
--- src/texts.rt:99:46
 part-put-decimal-end : tie.Need-part-put-decimal-end
 part-put-decimal-end c = search needs
 
--- src/texts.rt:99:20
 put-decimal-requires : tie.Need-put-decimal-requires
 put-decimal-requires c κs =
     let a = c .before .before .before .before .args in
@@ -79,7 +72,6 @@ put-decimal-requires c κs =
     let m : c .before .magnitude .result ≡ N z = c .before .magnitude .ensures ∙ ap N b in
     omega (arith, tail-length (9 ∷ 45 ∷ []) l 2 e refl (omega (arith, c .before .before .before .before .pre)), ap (λ k. length (decimal k)) m, c .before .before .before .before .pre)
 
--- src/texts.rt:99:16
 add-result : tie.Need-add-result
 add-result c =
     let a = c .before .before .before .before .before .before .before .args in
@@ -92,7 +84,6 @@ add-result c =
     let m : c .before .before .before .before .magnitude .result ≡ N z = c .before .before .before .before .magnitude .ensures ∙ ap N b in
     omega (arith, c .before .before .put-decimal .ensures .0, ap (λ k. length (decimal k)) m, c .before .before .before .before .before .before .before .pre)
 
--- src/texts.rt:99:9
 returns : tie.Need-returns
 returns c =
     let a = c .before .before .before .before .before .before .before .args in
@@ -108,7 +99,6 @@ returns c =
       number-front z l neg (tail-home (9 ∷ 45 ∷ []) l 2 e refl (omega (arith, c .before .before .before .before .before .before .before .pre)) (decimal (c .before .before .before .before .magnitude .result)) (d .ensures .1) ∙ ap (λ k. front (9 ∷ 45 ∷ decimal k) l) m),
     )
 
--- src/texts.rt:101:21
 above-requires : tie.Need-above-requires
 above-requires c κs =
     let a = c .before .before .args in
@@ -120,7 +110,6 @@ above-requires c κs =
     let e = stored1 l 9 (omega (arith, c .before .before .pre)) in
     rw b (omega arith, omega (arith, fits-read (c .before .before .fits .z)))
 
--- src/texts.rt:101:34
 sub-put-decimal-2 : tie.Need-sub-put-decimal-2
 sub-put-decimal-2 c =
     let a = c .before .before .before .args in
@@ -132,7 +121,6 @@ sub-put-decimal-2 c =
     let e = stored1 l 9 (omega (arith, c .before .before .before .pre)) in
     tail-within (9 ∷ []) l 1 e refl (omega (arith, c .before .before .before .pre))
 
--- src/texts.rt:101:34
 part-put-decimal-start-2 : tie.Need-part-put-decimal-start-2
 part-put-decimal-start-2 c =
     let a = c .before .before .before .args in
@@ -144,11 +132,9 @@ part-put-decimal-start-2 c =
     let e = stored1 l 9 (omega (arith, c .before .before .before .pre)) in
     tail-within (9 ∷ []) l 1 e refl (omega (arith, c .before .before .before .pre))
 
--- src/texts.rt:101:34
 part-put-decimal-end-2 : tie.Need-part-put-decimal-end-2
 part-put-decimal-end-2 c = search needs
 
--- src/texts.rt:101:9
 put-decimal-requires-2 : tie.Need-put-decimal-requires-2
 put-decimal-requires-2 c κs =
     let a = c .before .before .before .before .args in
@@ -161,7 +147,6 @@ put-decimal-requires-2 c κs =
     let m : c .before .above .result ≡ P z = omega (arith, rw b at (c .before .above .ensures)) in
     omega (arith, tail-length (9 ∷ []) l 1 e refl (omega (arith, c .before .before .before .before .pre)), ap (λ k. length (decimal k)) m, c .before .before .before .before .pre)
 
--- src/texts.rt:101:5
 add-result-2 : tie.Need-add-result-2
 add-result-2 c =
     let a = c .before .before .before .before .before .before .before .args in
@@ -174,7 +159,6 @@ add-result-2 c =
     let m : c .before .before .before .before .above .result ≡ P z = omega (arith, rw b at (c .before .before .before .before .above .ensures)) in
     omega (arith, c .before .before .put-decimal2 .ensures .0, ap (λ k. length (decimal k)) m, c .before .before .before .before .before .before .before .pre)
 
--- src/texts.rt:91:1
 returns-2 : tie.Need-returns-2
 returns-2 c =
     let a = c .before .before .before .before .before .before .before .args in
@@ -190,7 +174,6 @@ returns-2 c =
       count-front z l nonneg (tail-home (9 ∷ []) l 1 e refl (omega (arith, c .before .before .before .before .before .before .before .pre)) (decimal (c .before .before .before .before .above .result)) (d .ensures .1) ∙ ap (λ k. front (9 ∷ decimal k) l) m),
     )
 
--- src/texts.rt:99:9
 same-length : tie.Need-same-length
 same-length c =
     let a = c .before .before .before .before .before .before .before .args in
@@ -199,7 +182,6 @@ same-length c =
     let b = toZ-ofZ (c .before .before .before .before .before .before .before .fits .z) in
     ap length (returns c .1) ∙ front-length (9 ∷ numberText z) l (omega (arith, c .before .before .before .before .before .before .before .pre))
 
--- src/texts.rt:91:1
 same-length-2 : tie.Need-same-length-2
 same-length-2 c =
     let a = c .before .before .before .before .before .before .before .args in

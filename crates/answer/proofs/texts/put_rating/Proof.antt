@@ -11,7 +11,6 @@ use borrow.Author.Needs.{needs}
 use Rattle.answer.proofs.texts.put_rating.Statement.{statement}
 use Rattle.answer.proofs.texts.put_rating.Tie as tie
 
--- src/texts.rt:221:9
 put-number-requires : tie.Need-put-number-requires
 put-number-requires c κs =
     let a = c .before .before .before .before .args in
@@ -21,7 +20,6 @@ put-number-requires c κs =
     let q = c .before .before .before .before .pre in
     rw (back (sh .rating .0) (c .struct-told .given .0 .1)) (omega arith)
 
--- src/texts.rt:222:22
 sub-put-first : tie.Need-sub-put-first
 sub-put-first c =
     let a = c .before .before .before .before .before .before .before .args in
@@ -35,7 +33,6 @@ sub-put-first c =
     let k = d .ensures .0 ∙ ap (λ z. 1 + length (numberText z)) b in
     tail-within (9 ∷ numberText (sh .rating .0)) l (d .result) e (omega arith) (omega arith)
 
--- src/texts.rt:222:22
 part-put-first-start : tie.Need-part-put-first-start
 part-put-first-start c =
     let a = c .before .before .before .before .before .before .before .args in
@@ -49,11 +46,9 @@ part-put-first-start c =
     let k = d .ensures .0 ∙ ap (λ z. 1 + length (numberText z)) b in
     tail-within (9 ∷ numberText (sh .rating .0)) l (d .result) e (omega arith) (omega arith)
 
--- src/texts.rt:222:22
 part-put-first-end : tie.Need-part-put-first-end
 part-put-first-end c = search needs
 
--- src/texts.rt:222:5
 put-first-requires : tie.Need-put-first-requires
 put-first-requires c κs =
     let a = c .before .before .before .before .before .before .before .before .args in
@@ -67,7 +62,6 @@ put-first-requires c κs =
     let k = d .ensures .0 ∙ ap (λ z. 1 + length (numberText z)) b in
     omega (arith, tail-length (9 ∷ numberText (sh .rating .0)) l (d .result) e (omega arith) (omega arith))
 
--- src/texts.rt:216:1
 returns : tie.Need-returns
 returns c =
     let a = c .before .before .before .before .before .before .before .before .before .before .before .args in
@@ -81,7 +75,6 @@ returns c =
     let k = d .ensures .0 ∙ ap (λ z. 1 + length (numberText z)) b in
     field-front (numberText (sh .rating .0)) (firstFields sh) l (tail-home (9 ∷ numberText (sh .rating .0)) l (d .result) e (omega arith) (omega arith) (others (firstFields sh)) (c .before .before .put-first .ensures))
 
--- src/texts.rt:216:1
 same-length : tie.Need-same-length
 same-length c = search needs
 

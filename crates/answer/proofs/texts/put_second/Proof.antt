@@ -7,7 +7,6 @@ use borrow.Author.Needs.{needs}
 use Rattle.answer.proofs.texts.put_second.Statement.{statement}
 use Rattle.answer.proofs.texts.put_second.Tie as tie
 
--- src/texts.rt:201:9
 put-term-requires : tie.Need-put-term-requires
 put-term-requires c κs =
     let a = c .before .before .args in
@@ -17,7 +16,6 @@ put-term-requires c κs =
     let q = c .before .before .pre in
     omega arith
 
--- src/texts.rt:202:23
 sub-put-shifts : tie.Need-sub-put-shifts
 sub-put-shifts c =
     let a = c .before .before .before .before .before .args in
@@ -30,7 +28,6 @@ sub-put-shifts c =
     let k = d .ensures .0 in
     tail-within (9 ∷ termText (sh .second)) l (d .result) e (omega arith) (omega arith)
 
--- src/texts.rt:202:23
 part-put-shifts-start : tie.Need-part-put-shifts-start
 part-put-shifts-start c =
     let a = c .before .before .before .before .before .args in
@@ -43,11 +40,9 @@ part-put-shifts-start c =
     let k = d .ensures .0 in
     tail-within (9 ∷ termText (sh .second)) l (d .result) e (omega arith) (omega arith)
 
--- src/texts.rt:202:23
 part-put-shifts-end : tie.Need-part-put-shifts-end
 part-put-shifts-end c = search needs
 
--- src/texts.rt:202:5
 put-shifts-requires : tie.Need-put-shifts-requires
 put-shifts-requires c κs =
     let a = c .before .before .before .before .before .before .args in
@@ -60,7 +55,6 @@ put-shifts-requires c κs =
     let k = d .ensures .0 in
     omega (arith, tail-length (9 ∷ termText (sh .second)) l (d .result) e (omega arith) (omega arith))
 
--- src/texts.rt:196:1
 returns : tie.Need-returns
 returns c =
     let a = c .before .before .before .before .before .before .before .before .before .args in
@@ -73,7 +67,6 @@ returns c =
     let k = d .ensures .0 in
     field-front (termText (sh .second)) (shiftsFields sh) l (tail-home (9 ∷ termText (sh .second)) l (d .result) e (omega arith) (omega arith) (others (shiftsFields sh)) (c .before .before .put-shifts .ensures))
 
--- src/texts.rt:196:1
 same-length : tie.Need-same-length
 same-length c = search needs
 

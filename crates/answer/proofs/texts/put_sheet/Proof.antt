@@ -9,19 +9,16 @@ use borrow.Author.Needs.{needs}
 use Rattle.answer.proofs.texts.put_sheet.Statement.{statement}
 use Rattle.answer.proofs.texts.put_sheet.Tie as tie
 
--- src/texts.rt:230:5
 slice-write-out : tie.Need-slice-write-out
 slice-write-out c =
     let h = others-length (48 ∷ []) (ratingFields (c .before .args .sheet)) in
     omega (arith, c .before .pre)
 
--- src/texts.rt:231:5
 slice-write-out-2 : tie.Need-slice-write-out-2
 slice-write-out-2 c =
     let h = others-length (48 ∷ []) (ratingFields (c .before .args .sheet)) in
     simp length-set (omega (arith, c .before .pre))
 
--- src/texts.rt:232:23
 sub-put-rating : tie.Need-sub-put-rating
 sub-put-rating c =
     let a = c .before .args in
@@ -31,7 +28,6 @@ sub-put-rating c =
     let e = stored2 l 9 48 (omega arith) in
     tail-within (9 ∷ 48 ∷ []) l 2 e refl (omega arith)
 
--- src/texts.rt:232:23
 part-put-rating-start : tie.Need-part-put-rating-start
 part-put-rating-start c =
     let a = c .before .args in
@@ -41,11 +37,9 @@ part-put-rating-start c =
     let e = stored2 l 9 48 (omega arith) in
     tail-within (9 ∷ 48 ∷ []) l 2 e refl (omega arith)
 
--- src/texts.rt:232:23
 part-put-rating-end : tie.Need-part-put-rating-end
 part-put-rating-end c = search needs
 
--- src/texts.rt:232:5
 put-rating-requires : tie.Need-put-rating-requires
 put-rating-requires c κs =
     let a = c .before .before .args in
@@ -55,7 +49,6 @@ put-rating-requires c κs =
     let e = stored2 l 9 48 (omega arith) in
     omega (arith, tail-length (9 ∷ 48 ∷ []) l 2 e refl (omega arith))
 
--- src/texts.rt:226:1
 returns : tie.Need-returns
 returns c =
     let a = c .before .before .before .before .before .args in
@@ -65,7 +58,6 @@ returns c =
     let e = stored2 l 9 48 (omega arith) in
     field-front (48 ∷ []) (ratingFields (a .sheet)) l (tail-home (9 ∷ 48 ∷ []) l 2 e refl (omega arith) (others (ratingFields (a .sheet))) (c .before .before .put-rating .ensures))
 
--- src/texts.rt:226:1
 same-length : tie.Need-same-length
 same-length c =
     let a = c .before .before .before .before .before .args in

@@ -7,7 +7,6 @@ use borrow.Author.Needs.{needs}
 use Rattle.answer.proofs.texts.put_shifts.Statement.{statement}
 use Rattle.answer.proofs.texts.put_shifts.Tie as tie
 
--- src/texts.rt:191:9
 put-count-requires : tie.Need-put-count-requires
 put-count-requires c κs =
     let a = c .before .before .args in
@@ -17,7 +16,6 @@ put-count-requires c κs =
     let q = c .before .before .pre in
     omega arith
 
--- src/texts.rt:192:21
 sub-put-mark : tie.Need-sub-put-mark
 sub-put-mark c =
     let a = c .before .before .before .before .before .args in
@@ -30,7 +28,6 @@ sub-put-mark c =
     let k = d .ensures .0 in
     tail-within (9 ∷ decimal (sh .shifts)) l (d .result) e (omega arith) (omega arith)
 
--- src/texts.rt:192:21
 part-put-mark-start : tie.Need-part-put-mark-start
 part-put-mark-start c =
     let a = c .before .before .before .before .before .args in
@@ -43,11 +40,9 @@ part-put-mark-start c =
     let k = d .ensures .0 in
     tail-within (9 ∷ decimal (sh .shifts)) l (d .result) e (omega arith) (omega arith)
 
--- src/texts.rt:192:21
 part-put-mark-end : tie.Need-part-put-mark-end
 part-put-mark-end c = search needs
 
--- src/texts.rt:192:5
 put-mark-requires : tie.Need-put-mark-requires
 put-mark-requires c κs =
     let a = c .before .before .before .before .before .before .args in
@@ -60,7 +55,6 @@ put-mark-requires c κs =
     let k = d .ensures .0 in
     omega (arith, tail-length (9 ∷ decimal (sh .shifts)) l (d .result) e (omega arith) (omega arith))
 
--- src/texts.rt:187:1
 returns : tie.Need-returns
 returns c =
     let a = c .before .before .before .before .before .before .before .before .before .args in
@@ -73,7 +67,6 @@ returns c =
     let k = d .ensures .0 in
     field-front (decimal (sh .shifts)) (markFields sh) l (tail-home (9 ∷ decimal (sh .shifts)) l (d .result) e (omega arith) (omega arith) (others (markFields sh)) (c .before .before .put-mark .ensures))
 
--- src/texts.rt:187:1
 same-length : tie.Need-same-length
 same-length c = search needs
 

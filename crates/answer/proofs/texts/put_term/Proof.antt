@@ -10,11 +10,9 @@ use borrow.Author.Needs.{needs}
 use Rattle.answer.proofs.texts.put_term.Statement.{statement}
 use Rattle.answer.proofs.texts.put_term.Tie as tie
 
--- src/texts.rt:111:21
 enum-known-term : tie.Need-enum-known-term
 enum-known-term c = search needs
 
--- src/texts.rt:111:27
 put-number-requires : tie.Need-put-number-requires
 unfolding termText
 put-number-requires c κs =
@@ -22,22 +20,18 @@ put-number-requires c κs =
     let a = c .before .before .before .before .before .before .args in
     rw (back (w .0 .0 .0) (c .struct-told .given .0 .1)) (omega (arith, c .before .before .before .before .before .before .pre, ap (λ t. length (termText t)) (w .1)))
 
--- src/texts.rt:113:13
 enum-told : tie.Need-enum-told
 enum-told c = search needs
 
--- src/texts.rt:113:13
 slice-write-out : tie.Need-slice-write-out
 slice-write-out c = search needs
 
--- src/texts.rt:114:13
 slice-write-out-2 : tie.Need-slice-write-out-2
 unfolding termText
 slice-write-out-2 c =
     let e = c .enum-told .given .1 in
     simp length-set (omega (arith, c .before .before .before .pre, ap (λ t. length (termText t)) e))
 
--- src/texts.rt:105:1
 returns : tie.Need-returns
 unfolding termText
 returns c =
@@ -49,7 +43,6 @@ returns c =
       d .ensures .1 ∙ ap (λ z. front (9 ∷ numberText z) (a .out .now)) b ∙ ap (λ t. front (9 ∷ termText t) (a .out .now)) (sym (w .1)),
     )
 
--- src/texts.rt:105:1
 returns-2 : tie.Need-returns-2
 unfolding termText
 returns-2 c =
@@ -59,11 +52,9 @@ returns-2 c =
       stored2 (a .out .now) 9 45 (omega (arith, c .before .before .before .pre, ap (λ t. length (termText t)) e)) ∙ ap (λ t. front (9 ∷ termText t) (a .out .now)) (sym e),
     )
 
--- src/texts.rt:105:1
 same-length : tie.Need-same-length
 same-length c = search needs
 
--- src/texts.rt:105:1
 same-length-2 : tie.Need-same-length-2
 same-length-2 c = search needs
 

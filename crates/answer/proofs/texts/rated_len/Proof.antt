@@ -8,35 +8,27 @@ use borrow.Author.Needs.{needs}
 use Rattle.answer.proofs.texts.rated_len.Statement.{statement}
 use Rattle.answer.proofs.texts.rated_len.Tie as tie
 
--- src/texts.rt:228:23
 enum-known-rated : tie.Need-enum-known-rated
 enum-known-rated c = search needs
 
--- src/texts.rt:228:33
 sheet-len-requires : tie.Need-sheet-len-requires
 sheet-len-requires c κs = search needs
 
--- src/texts.rt:229:24
 enum-known-rated-2 : tie.Need-enum-known-rated-2
 enum-known-rated-2 c = search needs
 
--- src/texts.rt:229:52
 number-requires : tie.Need-number-requires
 number-requires c κs = search needs
 
--- src/texts.rt:229:40
 decimal-len-requires : tie.Need-decimal-len-requires
 decimal-len-requires c κs = search needs
 
--- src/texts.rt:229:36
 add-result : tie.Need-add-result
 add-result c = omega (arith, c .decimal-len .ensures .1)
 
--- src/texts.rt:224:1
 returns : tie.Need-returns
 returns c = (c .sheet-len .ensures .0 ∙ ap (λ r. length (others (fieldsOf r))) (sym (c .before .before .rated .given .1)), c .sheet-len .ensures .1)
 
--- src/texts.rt:224:1
 returns-2 : tie.Need-returns-2
 returns-2 c =
     let w = c .before .before .before .rated2 .given in (

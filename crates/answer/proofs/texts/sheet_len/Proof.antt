@@ -8,39 +8,30 @@ use borrow.Author.Needs.{needs}
 use Rattle.answer.proofs.texts.sheet_len.Statement.{statement}
 use Rattle.answer.proofs.texts.sheet_len.Tie as tie
 
--- src/texts.rt:220:17
 number-len-requires : tie.Need-number-len-requires
 number-len-requires c κs = search needs
 
--- src/texts.rt:220:40
 number-len-requires-2 : tie.Need-number-len-requires-2
 number-len-requires-2 c κs = search needs
 
--- src/texts.rt:220:17
 add-terms : tie.Need-add-terms
 add-terms c = search needs
 
--- src/texts.rt:220:62
 term-len-requires : tie.Need-term-len-requires
 term-len-requires c κs = search needs
 
--- src/texts.rt:220:17
 add-terms-2 : tie.Need-add-terms-2
 add-terms-2 c = search needs
 
--- src/texts.rt:221:5
 add-result : tie.Need-add-result
 add-result c = search needs
 
--- src/texts.rt:221:17
 decimal-len-requires : tie.Need-decimal-len-requires
 decimal-len-requires c κs = search needs
 
--- src/texts.rt:221:5
 add-result-2 : tie.Need-add-result-2
 add-result-2 c = omega (arith, c .decimal-len .ensures .1, c .before .term-len .ensures .1, c .before .before .number-len2 .ensures .1, c .before .before .before .before .number-len .ensures .1)
 
--- src/texts.rt:214:1
 returns : tie.Need-returns
 returns c =
     let sh = c .before .before .before .before .before .before .before .before .args .sheet in

@@ -7,26 +7,21 @@ use borrow.Author.Needs.{needs}
 use Rattle.answer.proofs.texts.term_len.Statement.{statement}
 use Rattle.answer.proofs.texts.term_len.Tie as tie
 
--- src/texts.rt:209:21
 enum-known-term : tie.Need-enum-known-term
 enum-known-term c = search needs
 
--- src/texts.rt:209:27
 number-len-requires : tie.Need-number-len-requires
 number-len-requires c κs = search needs
 
--- src/texts.rt:210:25
 enum-told : tie.Need-enum-told
 enum-told c = search needs
 
--- src/texts.rt:205:1
 returns : tie.Need-returns
 unfolding termText
 returns c =
     let w = c .before .before .before .term .given in
     (c .number-len .ensures .0 ∙ ap (λ z. length (numberText z)) (back (w .0 .0 .0) (c .before .struct-told .given .0 .1)) ∙ ap (λ t. length (termText t)) (sym (w .1)), c .number-len .ensures .1)
 
--- src/texts.rt:205:1
 returns-2 : tie.Need-returns-2
 unfolding termText
 returns-2 c = (ap (λ t. length (termText t)) (sym (c .enum-told .given .1)), omega arith)

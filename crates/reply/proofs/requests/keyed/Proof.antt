@@ -7,82 +7,66 @@ use borrow.Author.Needs.{needs}
 use Rattle.reply.proofs.requests.keyed.Statement.{statement}
 use Rattle.reply.proofs.requests.keyed.Tie as tie
 
--- src/requests.rt:84:15
 add-key : tie.Need-add-key
 add-key c = search needs
 
--- src/requests.rt:85:9
 key-span-requires : tie.Need-key-span-requires
 key-span-requires c κs = search needs
 
--- src/requests.rt:87:9
 no-reply-requires : tie.Need-no-reply-requires
 no-reply-requires c κs = search needs
 
--- src/requests.rt:87:9
 returns : tie.Need-returns
 returns c =
     let a = c .before .before .before .before .args in
     let k = c .before .before .key-span in
     c .no-reply .ensures ∙ key-none (a .s .now) (a .at) (a .kind) (k .result) (k .ensures) (c .before .if1 .taken)
 
--- src/requests.rt:90:9
 no-reply-requires-2 : tie.Need-no-reply-requires-2
 no-reply-requires-2 c κs = search needs
 
--- src/requests.rt:90:9
 returns-2 : tie.Need-returns-2
 returns-2 c =
     let a = c .before .before .before .before .before .args in
     let k = c .before .before .before .key-span in
     c .no-reply2 .ensures ∙ key-long (a .s .now) (a .at) (a .kind) (k .result) (k .ensures) (c .before .if2 .taken)
 
--- src/requests.rt:92:29
 add-bands-at : tie.Need-add-bands-at
 add-bands-at c = search needs
 
--- src/requests.rt:92:9
 bands-at-requires : tie.Need-bands-at-requires
 bands-at-requires c κs = search needs
 
--- src/requests.rt:95:9
 no-reply-requires-3 : tie.Need-no-reply-requires-3
 no-reply-requires-3 c κs = search needs
 
--- src/requests.rt:95:9
 returns-3 : tie.Need-returns-3
 returns-3 c =
     let a = c .before .before .before .before .before .before .before .args in
     let k = c .before .before .before .before .before .key-span in
     c .no-reply3 .ensures ∙ bands-broken (a .s .now) (a .at) (a .kind) (k .result) (k .ensures) (omega arith) (c .before .before .before .if2 .left) (c .before .before .bands-at .result) (c .before .before .bands-at .ensures) (c .before .if3 .taken)
 
--- src/requests.rt:98:9
 no-reply-requires-4 : tie.Need-no-reply-requires-4
 no-reply-requires-4 c κs = search needs
 
--- src/requests.rt:98:9
 returns-4 : tie.Need-returns-4
 returns-4 c =
     let a = c .before .before .before .before .before .before .before .before .before .args in
     let k = c .before .before .before .before .before .before .before .key-span in
     c .no-reply4 .ensures ∙ bands-none (a .s .now) (a .at) (a .kind) (k .result) (k .ensures) (omega arith) (c .before .before .before .before .before .if2 .left) (c .before .before .before .before .bands-at .result) (c .before .before .before .before .bands-at .ensures) (c .before .if4 .taken)
 
--- src/requests.rt:100:8
 add-if5 : tie.Need-add-if5
 add-if5 c = search needs
 
--- src/requests.rt:101:9
 no-reply-requires-5 : tie.Need-no-reply-requires-5
 no-reply-requires-5 c κs = search needs
 
--- src/requests.rt:101:9
 returns-5 : tie.Need-returns-5
 returns-5 c =
     let a = c .before .before .before .before .before .before .before .before .before .before .args in
     let k = c .before .before .before .before .before .before .before .before .key-span in
     c .no-reply5 .ensures ∙ bands-far (a .s .now) (a .at) (a .kind) (k .result) (k .ensures) (omega arith) (c .before .before .before .before .before .before .if2 .left) (c .before .before .before .before .before .bands-at .result) (c .before .before .before .before .before .bands-at .ensures) (c .before .if5 .taken)
 
--- src/requests.rt:103:9
 judge-requires : tie.Need-judge-requires
 judge-requires c κs =
     let a = c .before .before .before .before .before .before .before .before .before .args in
@@ -90,7 +74,6 @@ judge-requires c κs =
     let k = c .before .before .before .before .before .before .before .key-span in
     (clean-of (a .kind) (bandsAt (a .s .now) (a .at + 3 + k .result)) (r .result) (r .ensures) (c .before .before .before .if3 .left), c .before .before .before .before .before .before .before .before .before .pre .1)
 
--- src/requests.rt:80:1
 returns-6 : tie.Need-returns-6
 returns-6 c =
     let a = c .before .before .before .before .before .before .before .before .before .before .args in

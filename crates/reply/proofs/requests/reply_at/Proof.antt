@@ -7,23 +7,18 @@ use borrow.Author.Needs.{needs}
 use Rattle.reply.proofs.requests.reply_at.Statement.{statement}
 use Rattle.reply.proofs.requests.reply_at.Tie as tie
 
--- src/requests.rt:117:9
 kind-at-requires : tie.Need-kind-at-requires
 kind-at-requires c κs = search needs
 
--- src/requests.rt:119:27
 enum-told : tie.Need-enum-told
 enum-told c = search needs
 
--- src/requests.rt:119:27
 no-reply-requires : tie.Need-no-reply-requires
 no-reply-requires c κs = search needs
 
--- src/requests.rt:120:19
 enum-known-named : tie.Need-enum-known-named
 enum-known-named c = search needs
 
--- src/requests.rt:121:24
 add-byte : tie.Need-add-byte
 add-byte c =
     let a = c .before .before .before .before .before .args in
@@ -31,15 +26,12 @@ add-byte c =
     let k = c .before .before .before .kind-at in
     omega (arith, kind-inside (a .s .now) (a .at) (w .0 .0) (sym (k .ensures) ∙ w .1))
 
--- src/requests.rt:121:16
 byte-requires : tie.Need-byte-requires
 byte-requires c κs = search needs
 
--- src/requests.rt:122:17
 no-reply-requires-2 : tie.Need-no-reply-requires-2
 no-reply-requires-2 c κs = search needs
 
--- src/requests.rt:122:17
 returns : tie.Need-returns
 returns c =
     let a = c .before .before .before .before .before .before .before .before .args in
@@ -47,7 +39,6 @@ returns c =
     let k = c .before .before .before .before .before .before .kind-at in
     c .no-reply2 .ensures ∙ no-tab (a .s .now) (a .at) (k .result) (w .0 .0) (c .before .before .byte .result) (k .ensures) (w .1) (c .before .before .byte .ensures) (c .before .if1 .taken)
 
--- src/requests.rt:124:13
 keyed-requires : tie.Need-keyed-requires
 keyed-requires c κs =
     let a = c .before .before .before .before .before .before .before .args in
@@ -55,14 +46,12 @@ keyed-requires c κs =
     let k = c .before .before .before .before .before .kind-at in
     (inside-byte (a .s .now) (a .at + 2) (c .before .byte .result) (c .before .byte .ensures) (omega arith), c .before .before .before .before .before .before .before .pre)
 
--- src/requests.rt:114:1
 returns-2 : tie.Need-returns-2
 returns-2 c =
     let a = c .before .before .before .before .before .args in
     let k = c .before .before .before .kind-at in
     c .no-reply .ensures ∙ no-kind (a .s .now) (a .at) (k .result) (k .ensures) (c .before .enum-told .given .1)
 
--- src/requests.rt:114:1
 returns-3 : tie.Need-returns-3
 returns-3 c =
     let a = c .before .before .before .before .before .before .before .before .args in

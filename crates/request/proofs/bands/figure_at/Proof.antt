@@ -1,4 +1,4 @@
--- `line::bands::figure_at` meets its contract: a first digit, or nothing. Assumes nothing.
+-- `request::bands::figure_at` meets its contract: a first digit, or nothing. Assumes nothing.
 use borrow.Author.Needs.{needs}
 use mathlib.Core.Path.{_∙_, ap}
 use native.Mathlib.Omega.{arith}

@@ -1,4 +1,4 @@
--- `line::bands::first_at` meets its contract: a point, a second digit behind one that is no 0, or nothing. Assumes nothing.
+-- `request::bands::first_at` meets its contract: a point, a second digit behind one that is no 0, or nothing. Assumes nothing.
 use borrow.Author.Needs.{needs}
 use mathlib.Core.Path.{_∙_, ap}
 use native.Mathlib.Omega.{arith}

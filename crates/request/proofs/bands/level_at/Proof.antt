@@ -1,4 +1,4 @@
--- `line::bands::level_at` meets its contract: with a minus, or without. Assumes nothing.
+-- `request::bands::level_at` meets its contract: with a minus, or without. Assumes nothing.
 use borrow.Author.Needs.{needs}
 use Prim.Native.Nat.{_+_}
 use native.Mathlib.Omega.{arith}

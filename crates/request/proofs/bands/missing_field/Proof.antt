@@ -1,4 +1,4 @@
--- `line::bands::missing_field` meets its contract by computation. Assumes nothing.
+-- `request::bands::missing_field` meets its contract by computation. Assumes nothing.
 use mathlib.Core.Path.{refl}
 use Rattle.request.specs.Gathering.{fieldOf}
 use Rattle.request.proofs.bands.missing_field.Statement.{statement}

@@ -1,4 +1,4 @@
--- `line::bands::second_at` meets its contract: a point, a third digit, or nothing. Assumes nothing.
+-- `request::bands::second_at` meets its contract: a point, a third digit, or nothing. Assumes nothing.
 use borrow.Author.Needs.{needs}
 use mathlib.Core.Path.{_∙_, ap}
 use native.Mathlib.Omega.{arith}

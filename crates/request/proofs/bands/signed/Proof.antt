@@ -1,4 +1,4 @@
--- `line::bands::signed` meets its contract: each sign by itself, and -0.0 is nothing. Assumes nothing.
+-- `request::bands::signed` meets its contract: each sign by itself, and -0.0 is nothing. Assumes nothing.
 use borrow.Author.Needs.{needs}
 use mathlib.Core.Path.{_∙_, sym, ap}
 use native.Mathlib.Omega.{arith}

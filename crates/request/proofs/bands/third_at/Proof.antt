@@ -1,4 +1,4 @@
--- `line::bands::third_at` meets its contract: a point, or nothing. Assumes nothing.
+-- `request::bands::third_at` meets its contract: a point, or nothing. Assumes nothing.
 use borrow.Author.Needs.{needs}
 use mathlib.Core.Path.{_∙_}
 use native.Mathlib.Omega.{arith}

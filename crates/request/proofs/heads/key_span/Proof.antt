@@ -1,4 +1,4 @@
--- `line::requests::key_span` meets its contract. The invariant: what was counted, and what is still to be counted, are the
+-- `request::heads::key_span` meets its contract. The invariant: what was counted, and what is still to be counted, are the
 -- whole span. The measure is what is left of the line. Assumes nothing.
 use mathlib.Core.Path.{_≡_, sym, _∙_, ap}
 use Prim.Native.Nat.{_+_, _-_, _≤_}

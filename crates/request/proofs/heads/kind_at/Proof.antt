@@ -1,4 +1,4 @@
--- `line::requests::kind_at` meets its contract: a letter, then a digit. Assumes nothing.
+-- `request::heads::kind_at` meets its contract: a letter, then a digit. Assumes nothing.
 use borrow.Author.Needs.{needs}
 use mathlib.Core.Path.{_∙_}
 use native.Mathlib.Omega.{arith}
