@@ -6,3 +6,4 @@ pub mod Sums
 pub mod Table
 pub mod Lists
 pub mod Tests
+pub mod Fronts
