@@ -53,10 +53,3 @@ level-parts false x e h = omega (arith, minus (pos e) x, apart (pos e -ℤ x), h
 pub level-most : (sign : Bool) (x : ℤ) (e : ℕ) → Counted sign x e → levelBy sign x e ≤ 4500
 level-most true x e h = omega (arith, level-parts true x e h, h .high, h .most)
 level-most false x e h = omega (arith, level-parts false x e h, h .low, h .most)
-
--- the level g counts a from c, or counts down from c
-abbrev pub Up : ℕ → ℤ → ℕ → Type 0
-Up c a g = g + N a ≡ c + P a
-
-abbrev pub Down : ℕ → ℤ → ℕ → Type 0
-Down c a g = g + P a ≡ c + N a

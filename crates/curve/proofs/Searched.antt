@@ -18,10 +18,12 @@ use Rattle.energy.specs.Energies.{F}
 use Rattle.energy.proofs.Scaled.{F-first}
 use Rattle.quantity.specs.Quantities.{inRange, bandOf}
 use Rattle.quantity.specs.declared.quantities.BandSet.{BandSet}
-use Rattle.curve.specs.Bands.{accepted, anyTo, bit}
+use Rattle.curve.specs.Bands.{accepted}
+use Rattle.laws.specs.Tests.{anyTo, bit}
 use Rattle.curve.specs.Levels.{at, levelAt, Levels, Entries, Count, startAt, totalAt, minTo, leastOf, energiesOf, Settled}
 use Rattle.curve.proofs.Counted.{counted, level-most}
-use Rattle.curve.proofs.Walks.{all-at, total-zero, min-below, energies-most, next-over}
+use Rattle.curve.proofs.Walks.{total-zero, min-below, energies-most, next-over}
+use Rattle.laws.proofs.Ranges.{all-at}
 
 pub count-most : {n : ℕ} → Count n → n ≤ 16
 count-most c = ⊎-elim (λ e. omega arith) (λ e. omega arith) c

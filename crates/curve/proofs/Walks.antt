@@ -1,70 +1,18 @@
 -- What each walk over the bands adds: tests over all bands, sums, the least. One law for the start, one for a turn and one for
 -- the way out of each loop. Assumes nothing.
 use mathlib.Core.Path.{_≡_, refl, sym, _∙_, ap, ap₂, subst}
-use mathlib.Core.Bool.{Bool, true, false, _&&_, _||_, and-false}
 use mathlib.Core.List.{List}
 use Prim.Native.Nat.{ℕ, zero, suc, _+_, _*_, _-_, _≤_, _<_, min}
 use native.Mathlib.Nat.{le-refl, lt-irrefl}
 use native.Mathlib.Decide.{decLt}
-use native.Mathlib.Numerals.{add-one}
 use native.Mathlib.Omega.{arith}
 use lib.ListN.{length, getD, set}
 use lib.Seq.{getD-set-same, getD-set-other}
 use Rattle.laws.specs.Sums.{sumTo}
 use Rattle.laws.proofs.Sums.{sum-none, sum-more, sum-bound}
-use Rattle.laws.proofs.Tests.{both}
 use Rattle.energy.specs.Energies.{F}
 use Rattle.energy.proofs.Scaled.{F-most}
-use Rattle.curve.specs.Bands.{allTo, anyTo}
 use Rattle.curve.specs.Levels.{totalAt, minTo, energiesOf}
-
--- ---- all bands pass
-pub all-none : (ok : ℕ → Bool) → allTo ok 0 ≡ true
-unfolding allTo
-all-none ok = refl
-
-pub all-suc : (ok : ℕ → Bool) (n : ℕ) → allTo ok (n + 1) ≡ allTo ok n && ok n
-unfolding allTo
-all-suc ok n = ap (allTo ok) (add-one n)
-
-pub all-more : (ok : ℕ → Bool) (n : ℕ) → allTo ok n ≡ true → ok n ≡ true → allTo ok (n + 1) ≡ true
-unfolding allTo
-all-more ok n a b = all-suc ok n ∙ ap₂ _&&_ a b
-
-pub all-fails : (ok : ℕ → Bool) (n i : ℕ) → i < n → ok i ≡ false → allTo ok n ≡ false
-unfolding allTo
-all-fails ok zero i h e = absurd (omega arith)
-all-fails ok (suc n) i h e = go (λ p. all-fails ok n i p e) (decLt i n)
-  where
-    go : (i < n → allTo ok n ≡ false) → Dec (i < n) → allTo ok n && ok n ≡ false
-    go before (yes p) = ap (λ (b : Bool). b && ok n) (before p)
-    go before (no p) = let s : i ≡ n = omega arith in
-        ap (λ (b : Bool). allTo ok n && b) (ap ok (sym s) ∙ e) ∙ and-false (allTo ok n)
-
-pub all-at : (ok : ℕ → Bool) (n : ℕ) → allTo ok n ≡ true → (i : ℕ) → i < n → ok i ≡ true
-unfolding allTo
-all-at ok zero e i h = absurd (omega arith)
-all-at ok (suc n) e i h = go (λ p. all-at ok n (both (allTo ok n) (ok n) e .0) i p) (decLt i n)
-  where
-    go : (i < n → ok i ≡ true) → Dec (i < n) → ok i ≡ true
-    go before (yes p) = before p
-    go before (no p) = let s : i ≡ n = omega arith in ap ok s ∙ both (allTo ok n) (ok n) e .1
-
-pub all-made : (ok : ℕ → Bool) (n : ℕ) → ((i : ℕ) → i < n → ok i ≡ true) → allTo ok n ≡ true
-unfolding allTo
-all-made ok zero h = refl
-all-made ok (suc n) h = ap₂ _&&_ (all-made ok n (λ i p. h i (omega arith))) (h n (le-refl (suc n)))
-
--- tests that say the same of each band say the same of all of them, and of some
-pub all-same : (f g : ℕ → Bool) (n : ℕ) → ((i : ℕ) → i < n → f i ≡ g i) → allTo f n ≡ allTo g n
-unfolding allTo
-all-same f g zero h = refl
-all-same f g (suc n) h = ap₂ _&&_ (all-same f g n (λ i q. h i (omega arith))) (h n (le-refl (suc n)))
-
-pub any-same : (f g : ℕ → Bool) (n : ℕ) → ((i : ℕ) → i < n → f i ≡ g i) → anyTo f n ≡ anyTo g n
-unfolding anyTo
-any-same f g zero h = refl
-any-same f g (suc n) h = ap₂ _||_ (any-same f g n (λ i q. h i (omega arith))) (h n (le-refl (suc n)))
 
 -- ---- totals of deficits
 pub total-none : (f : ℕ → ℕ) (p : ℕ) → 0 ≡ totalAt f 0 p

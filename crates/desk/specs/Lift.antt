@@ -9,4 +9,5 @@ unfoldable pub use Rattle.lift.specs.Reach.{lifted, reaches, listedMask, liftLi
 -- the call: its answer, and the lent buffer afterwards
 pub use Rattle.lift.specs.declared.lists.Lifted.{Lifted}
 pub use Rattle.lift.specs.Calls.{placesOf, bufferBy}
-unfoldable pub use Rattle.lift.specs.Calls.{inTargets, countOf, answerOf, front}
+unfoldable pub use Rattle.lift.specs.Calls.{inTargets, countOf, answerOf}
+unfoldable pub use Rattle.laws.specs.Lists.{front}

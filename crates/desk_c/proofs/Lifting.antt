@@ -34,6 +34,7 @@ use Rattle.door.specs.Lists.{setFrom}
 use Rattle.door.proofs.Fronts.{stored}
 use Rattle.desk_c.specs.Ratings.{byKind}
 use Rattle.desk_c.specs.Lifts.{listBy, liftAnswer, keptOr, liftHeld}
+use Rattle.laws.proofs.Tests.{clash}
 
 -- what the call leaves: its result, its list and its count
 abbrev pub LiftLeft : Kind → BandSet → ℤ → List ℕ → List ℤ → ℕ → List ℕ → List ℤ → Type 0
@@ -110,20 +111,17 @@ module _ (k : Kind) (s : BandSet) (t : ℤ) where
   unfolding answerOf countOf
   count-small room n e = by (ratedOf k s) e
     where
-      clash : _≡_ {A = ℕ} 0 1 → n ≤ 696
-      clash z = omega arith
-
       tests : (a b x : Bool) → tested a (tested b (tested x (Count (length (liftList k (bandOf s) t))) (Refused NoRoom)) (Refused NotBetter)) (Refused TargetRange) ≡ Count n
           → n ≤ 696
-      tests false b x h = clash (cc)
-      tests true false x h = clash (cc)
-      tests true true false h = clash (cc)
+      tests false b x h = clash cc
+      tests true false x h = clash cc
+      tests true true false h = clash cc
       tests true true true h =
           let q : n ≡ length (liftList k (bandOf s) t) = cc in
           omega (arith, list-room k (bandOf s) t 696 (places-small k))
 
       by : (r : Rated) → answerBy r k s t room ≡ Count n → n ≤ 696
-      by (Unrated q) h = clash (cc)
+      by (Unrated q) h = clash cc
       by (Rating sheet) h = tests (inTargets t) (betterBy (airborne k) t (sheet .rating .0)) (leb (placesOf k) room) h
 
 -- ---- by the kind's number

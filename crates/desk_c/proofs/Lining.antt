@@ -20,7 +20,8 @@ use Rattle.quantity.specs.Answers.{Answer}
 use Rattle.door.specs.Answers.{returned, held}
 use Rattle.quantity.specs.Answers.Answer.{refused, numbers}
 use Rattle.door.proofs.Fronts.{written-none, written-more, written-all, stored}
-use Rattle.desk_c.specs.Lines.{lineAnswer, lineHeld, isSet, bitOf, blockNumbers, blockBy, blockAnswer, blockHeld}
+use Rattle.desk_c.specs.Lines.{lineAnswer, lineHeld, isSet, blockNumbers, blockBy, blockAnswer, blockHeld}
+use Rattle.laws.specs.Extremes.{one-if}
 
 pub is-set : (n : ℕ) → (n ≡ 0 → ⊥) → true ≡ isSet n
 is-set zero h = absurd (h refl)
@@ -95,7 +96,7 @@ module _ (input : List ℕ) (skipping last : ℕ) (out progress : List ℕ) wher
       (w .0, (rw (lt-leb 3 (length progress) h) refl, w .1))
 
   pub block-done : 3 ≤ length progress → (s l : Bool) (r : Progress) (out′ : List ℕ) (bit : ℕ) → s ≡ isSet skipping → l ≡ isSet last
-      → Answered (blockOf input (length out) s l) input out r out′ → bit ≡ bitOf (r .skipping)
+      → Answered (blockOf input (length out) s l) input out r out′ → bit ≡ one-if (r .skipping)
       → BlockLeft input skipping last out progress 0 out′ (set (set (set progress 0 (r .used)) 1 (r .wrote)) 2 bit)
   unfolding blockAnswer blockHeld
   block-done h s l r out′ bit e f a g =
@@ -105,7 +106,7 @@ module _ (input : List ℕ) (skipping last : ℕ) (out progress : List ℕ) wher
       let q : r .used ∷ r .wrote ∷ bit ∷ [] ≡ blockNumbers (blockBy input (length out) skipping last) =
       ap (λ (x : ℕ). x ∷ r .wrote ∷ bit ∷ []) (d .used)
       ∙ ap (λ (x : ℕ). blockBy input (length out) skipping last .used ∷ x ∷ bit ∷ []) (d .wrote)
-      ∙ ap (λ (x : ℕ). blockBy input (length out) skipping last .used ∷ length (blockBy input (length out) skipping last .text) ∷ x ∷ []) (g ∙ ap bitOf (d .skipping)) in (
+      ∙ ap (λ (x : ℕ). blockBy input (length out) skipping last .used ∷ length (blockBy input (length out) skipping last .text) ∷ x ∷ []) (g ∙ ap one-if (d .skipping)) in (
         w .0 ∙ ap (λ (xs : List ℕ). returned (numbers xs) (length progress)) q,
         (d .out ∙ rw (le-leb 3 (length progress) h) refl, w .1 ∙ ap (λ (xs : List ℕ). held (numbers xs) progress) q),
       )

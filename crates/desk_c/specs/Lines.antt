@@ -8,8 +8,9 @@ use Rattle.reply.specs.Answers.{answerOf}
 use Rattle.line.specs.Answers.{placed, wroteOf, wroteAnswer}
 use Rattle.line.specs.Blocks.{Block, blockOf}
 use Rattle.quantity.specs.Answers.{Answer}
-use Rattle.door.specs.Answers.{front}
+use Rattle.laws.specs.Lists.{front}
 use Rattle.quantity.specs.Answers.Answer.{numbers}
+use Rattle.laws.specs.Extremes.{one-if}
 
 -- imbrolt_line: the length of the answer line
 unfoldable pub lineAnswer : List ℕ → List ℕ → ℕ → Answer ℕ
@@ -24,13 +25,9 @@ abbrev pub isSet : ℕ → Bool
 isSet zero = false
 isSet (suc n) = true
 
-abbrev pub bitOf : Bool → ℕ
-bitOf true = 1
-bitOf false = 0
-
 -- imbrolt_block: bytes used, bytes written, and the flag for the next call
 abbrev pub blockNumbers : Block → List ℕ
-blockNumbers b = b .used ∷ length (b .text) ∷ bitOf (b .skipping) ∷ []
+blockNumbers b = b .used ∷ length (b .text) ∷ one-if (b .skipping) ∷ []
 
 -- one call's block, with so many places of output
 abbrev pub blockBy : List ℕ → ℕ → ℕ → ℕ → Block

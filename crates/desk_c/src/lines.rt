@@ -4,7 +4,8 @@ use line::Wrote;
 ghost use mathlib.Core.Path.{_≡_};
 ghost use lib.ListN.{length};
 ghost use Rattle.door.specs.Answers.{returned, held};
-ghost use Rattle.desk_c.specs.Lines.{lineAnswer, lineHeld, isSet, bitOf, blockAnswer, blockHeld};
+ghost use Rattle.desk_c.specs.Lines.{lineAnswer, lineHeld, isSet, blockAnswer, blockHeld};
+ghost use Rattle.laws.specs.Extremes.{one-if};
 
 // The answer to one line, from place `at` of `out`, and its length.
 #[no_mangle]
@@ -35,7 +36,7 @@ fn is_set(number: u32) -> bool
 }
 
 fn bit_of(flag: bool) -> u64
-    ensures { λ r. ⌜ r ≡ bitOf flag ⌝ }
+    ensures { λ r. ⌜ r ≡ one-if flag ⌝ }
 {
     if flag { 1 } else { 0 }
 }

@@ -1,29 +1,19 @@
 -- An answer's numbers at the front of a lent array: with the first i of them written, one more store writes the next, and the
 -- array keeps its length. Assumes nothing.
 use mathlib.Core.Path.{_≡_, refl, sym, _∙_, ap}
-use mathlib.Core.List.{List, [], _∷_, _++_, append-assoc}
-use Prim.Native.Nat.{ℕ, suc, _+_, _≤_, _<_}
+use mathlib.Core.List.{List, [], _∷_}
+use Prim.Native.Nat.{ℕ, _+_, _≤_, _<_}
 use native.Mathlib.Omega.{arith}
 use native.Mathlib.Numerals.{add-one}
 use borrow.Author.Tests.{le-leb, lt-leb}
-use lib.ListN.{length, getD, take, drop, set, length-append, length-drop}
-use lib.Seq.{drop-cons, set-at, take-suc, length-take-le}
-use Rattle.door.specs.Answers.{front, returned, held}
+use lib.ListN.{length, getD, take, set}
+use lib.Seq.{take-suc, length-take-le}
+use Rattle.door.specs.Answers.{returned, held}
+use Rattle.laws.specs.Lists.{front}
 use Rattle.quantity.specs.Answers.Answer.{numbers}
+use Rattle.laws.proofs.Fronts.{front-more, front-length}
 
 module _ {A : Type 0} (d : A) where
-  -- a store at the first place after a list
-  pub front-more : (t b : List A) (v : A) (i : ℕ) → length t ≡ i → i < length b → set (front t b) i v ≡ front (t ++ (v ∷ [])) b
-  front-more t b v i e h =
-      let n : length (t ++ (v ∷ [])) ≡ suc i = simp length-append (omega arith) in
-      ap (λ (k : ℕ). set (t ++ drop k b) i v) e
-      ∙ ap (λ (l : List A). set (t ++ l) i v) (drop-cons b i d h)
-      ∙ set-at t (getD b i d) (drop (suc i) b) v i e
-      ∙ sym (ap (λ (k : ℕ). (t ++ (v ∷ [])) ++ drop k b) n ∙ append-assoc t (v ∷ []) (drop (suc i) b))
-
-  pub front-length : (t b : List A) → length t ≤ length b → length (front t b) ≡ length b
-  front-length t b h = simp (length-append, length-drop) (omega arith)
-
   -- the first i of n numbers are written
   pub record Written (answer : List A) (n : ℕ) (before after : List A) (i : ℕ) : Type 0 where
     pub within : i ≤ n
@@ -39,7 +29,7 @@ module _ {A : Type 0} (d : A) where
       let next : set after i v ≡ front (take (i + 1) answer) before =
       ap (λ (l : List A). set l i v) (w .front-is)
       ∙ ap (set (front (take i answer) before) i) e
-      ∙ front-more (take i answer) before (getD answer i d) i (length-take-le i answer (omega arith)) (omega arith)
+      ∙ front-more (take i answer) before i (getD answer i d) (sym (length-take-le i answer (omega arith))) (omega arith)
       ∙ ap (λ (t : List A). front t before) (sym (take-suc answer i d (omega arith)))
       ∙ ap (λ (k : ℕ). front (take k answer) before) (sym (add-one i)) in
       record {
@@ -69,4 +59,4 @@ module _ {A : Type 0} (d : A) where
       → (0 ≡ returned (numbers (v ∷ [])) (length before)) × (set before 0 v ≡ held (numbers (v ∷ [])) before)
   stored before v h =
       let fits = le-leb 1 (length before) h in
-      (rw fits refl, front-more [] before v 0 refl (omega arith) ∙ rw fits refl)
+      (rw fits refl, front-more [] before 0 v refl (omega arith) ∙ rw fits refl)

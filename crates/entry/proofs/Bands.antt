@@ -17,7 +17,7 @@ use Rattle.laws.specs.Lists.{listed}
 use Rattle.quantity.specs.declared.quantities.Tenths.{Tenths}
 use Rattle.quantity.specs.declared.quantities.BandSet.{BandSet}
 use Rattle.quantity.proofs.Rim.{back}
-use Rattle.curve.proofs.Walks.{all-at, all-made}
+use Rattle.laws.proofs.Ranges.{all-at, all-made}
 use Rattle.rating.specs.declared.kinds.Kind.{Kind}
 use Rattle.rating.specs.declared.kinds.Kind.the-variants.{A3, A1, I3, I1}
 use Rattle.rating.specs.Kinds.{bandsOf, kindOf, kindNumber}

@@ -10,8 +10,8 @@ use lib.Dec.{eqb}
 use lib.ListN.{length, getD, length-map}
 use lib.Seq.{length-take-le, ext-getD}
 use Rattle.laws.proofs.Tests.{left-fails, right-fails, left-holds, both, both-made}
-use Rattle.curve.specs.Bands.{allTo}
-use Rattle.curve.proofs.Walks.{all-more, all-fails, all-at, all-made}
+use Rattle.laws.specs.Tests.{allTo}
+use Rattle.laws.proofs.Ranges.{all-more, all-fails, all-at, all-made}
 use Rattle.entry.specs.declared.entries.Entry.{Entry}
 use Rattle.entry.specs.Entries.{keyOf, sameText, sameKey}
 

@@ -13,7 +13,7 @@ use Rattle.quantity.specs.Keys.{keyShape}
 use Rattle.quantity.specs.Quantities.{priced}
 use Rattle.quantity.specs.declared.quantities.Tenths.{Tenths}
 use Rattle.quantity.specs.declared.quantities.BandSet.{BandSet}
-use Rattle.curve.specs.Bands.{allTo}
+use Rattle.laws.specs.Tests.{allTo}
 use Rattle.rating.specs.declared.kinds.Kind.{Kind}
 use Rattle.rating.specs.declared.kinds.Named.{Named}
 use Rattle.rating.specs.declared.kinds.Named.the-variants.{Is, Unknown}

@@ -22,6 +22,7 @@ use Rattle.intake.specs.Nearest.{nearest}
 use Rattle.intake.specs.Taken.{floatTaken, takenOf}
 use Rattle.intake.specs.Times.{inTime, timeOf}
 use Rattle.intake.proofs.Nearest.{IsNearest, is-nearest, nearest-unique}
+use Rattle.laws.proofs.Tests.{clash}
 
 -- ---- "the tenth nearest its exact binary value, a tie going to the greater": 2 t - 1 <= 2 scale value < 2 t + 1, and no other t
 
@@ -32,20 +33,17 @@ pub float-only : (scale : ℕ) (s : Bool) (m : ℕ) (e t : ℤ) → IsNearest s 
 float-only scale s m e t h = nearest-unique s (scale * (m * up e)) (down e) t (down-pos e) h
 
 -- two constructors are never equal
-clash : _≡_ {A = ℕ} 0 1 → ⊥
-clash z = omega arith
-
 -- ---- what was taken is in range
 
 by-range : (b limit : Bool) (t : ℤ) (v : Tenths) (l : Bool) → cond b (one.Value (record { 0 = t }) limit) (one.Refused BandRange) ≡ one.Value v l
     → (b ≡ true) × (t ≡ v .0)
 by-range true limit t v l e = (refl, cc)
-by-range false limit t v l e = absurd (clash (cc))
+by-range false limit t v l e = clash cc
 
 float-range : (limit : Bool) (x : Float) (v : Tenths) (l : Bool) → floatTaken limit x ≡ one.Value v l → inRange (v .0) ≡ true
 unfolding floatTaken
-float-range limit nan v l e = absurd (clash (cc))
-float-range limit (inf s) v l e = absurd (clash (cc))
+float-range limit nan v l e = clash cc
+float-range limit (inf s) v l e = clash cc
 float-range limit (fin s m k) v l e =
     let t = nearest 10 s m k in
     let r = by-range (inRange t) limit t v l e in
@@ -55,12 +53,12 @@ pub taken-range : (r : Reading) (v : Tenths) (l : Bool) → takenOf r ≡ one.Va
 unfolding takenOf
 taken-range (Level x) v l e = float-range false x v l e
 taken-range (Limit x) v l e = float-range true x v l e
-taken-range Missing v l e = absurd (clash (cc))
+taken-range Missing v l e = clash cc
 
 by-time : (b : Bool) (t : ℤ) (h : Hundredths) → cond b (time.Value (record { 0 = P t })) (time.Refused TimeRange) ≡ time.Value h
     → (b ≡ true) × (P t ≡ h .0)
 by-time true t h e = (refl, cc)
-by-time false t h e = absurd (clash (cc))
+by-time false t h e = clash cc
 
 time-bounds : (t : ℤ) → inTime t ≡ true → (10 ≤ P t) × (P t ≤ 2000)
 unfolding inTime
@@ -68,14 +66,14 @@ time-bounds (pos n) e = go (leb 10 n) (leb n 2000) refl refl e
   where
     go : (a b : Bool) → leb 10 n ≡ a → leb n 2000 ≡ b → a && b ≡ true → (10 ≤ n) × (n ≤ 2000)
     go true true f g h = (leb-true 10 n f, leb-true n 2000 g)
-    go true false f g h = absurd (clash (cc))
-    go false b f g h = absurd (clash (cc))
-time-bounds (negsuc n) e = absurd (clash (cc))
+    go true false f g h = clash cc
+    go false b f g h = clash cc
+time-bounds (negsuc n) e = clash cc
 
 pub time-range : (x : Float) (h : Hundredths) → timeOf x ≡ time.Value h → (10 ≤ h .0) × (h .0 ≤ 2000)
 unfolding timeOf
-time-range nan h e = absurd (clash (cc))
-time-range (inf s) h e = absurd (clash (cc))
+time-range nan h e = clash cc
+time-range (inf s) h e = clash cc
 time-range (fin s m k) h e =
     let t = nearest 100 s m k in
     let r = by-time (inTime t) t h e in

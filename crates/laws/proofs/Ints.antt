@@ -128,6 +128,35 @@ le-no (pos a) (negsuc b) e = omega arith
 le-no (negsuc a) (pos b) e = absurd (subst T e tt)
 le-no (negsuc a) (negsuc b) e = omega (arith, leb-false b a e)
 
+-- tests from the parts
+pub le-true : (x y : ℤ) → P x + N y ≤ P y + N x → leZ x y ≡ true
+le-true x y h = go (leZ x y) refl
+  where
+    go : (b : Bool) → leZ x y ≡ b → b ≡ true
+    go true e = refl
+    go false e = absurd (omega (arith, le-no x y e))
+
+pub le-false : (x y : ℤ) → P y + N x < P x + N y → leZ x y ≡ false
+le-false x y h = go (leZ x y) refl
+  where
+    go : (b : Bool) → leZ x y ≡ b → b ≡ false
+    go true e = absurd (omega (arith, le-yes x y e))
+    go false e = refl
+
+pub lt-true : (x y : ℤ) → P x + N y < P y + N x → ltZ x y ≡ true
+lt-true x y h = go (ltZ x y) refl
+  where
+    go : (b : Bool) → ltZ x y ≡ b → b ≡ true
+    go true e = refl
+    go false e = absurd (omega (arith, lt-no x y e))
+
+pub lt-false : (x y : ℤ) → P y + N x ≤ P x + N y → ltZ x y ≡ false
+lt-false x y h = go (ltZ x y) refl
+  where
+    go : (b : Bool) → ltZ x y ≡ b → b ≡ false
+    go true e = absurd (omega (arith, lt-yes x y e))
+    go false e = refl
+
 -- a number of 32 bits with a sign, to and from its parts
 pub fits-read : {z : ℤ} → SFits w32 z → (P z < 2147483648) × (N z ≤ 2147483648)
 fits-read {z = pos n} f = omega (arith, f .sfits)

@@ -3,3 +3,4 @@ pub mod Parts
 pub mod Extremes
 pub mod Sums
 pub mod Lists
+pub mod Tests

@@ -47,7 +47,7 @@ use Rattle.ledger.proofs.Retries.{accepted-held, held-onward, kept-same
 use Rattle.ledger.proofs.Sameness.{marks-made}
 use Rattle.register.proofs.Seen.{Taken, Seen, seen, placed}
 use Rattle.register.proofs.Seen.Seen.{turned, retried, added}
-use Rattle.register.proofs.Tests.{any-some, Some}
+use Rattle.laws.proofs.Ranges.{any-some, Some}
 use Rattle.entry.proofs.Texts.{key-trans, text-made}
 
 -- ---- what lies past a stated length never matters

@@ -23,8 +23,9 @@ use Rattle.quantity.specs.declared.quantities.BandSet.{BandSet}
 use Rattle.quantity.specs.declared.quantities.Tenths.{Tenths}
 use Rattle.quantity.specs.declared.refusals.Refusal.the-variants.{BandCount, BandRange}
 use Rattle.quantity.proofs.Shapes.{key-shape}
-use Rattle.curve.specs.Bands.{allTo, anyTo, accepted}
-use Rattle.curve.proofs.Walks.{all-more, all-same, any-same}
+use Rattle.curve.specs.Bands.{accepted}
+use Rattle.laws.specs.Tests.{allTo, anyTo}
+use Rattle.laws.proofs.Ranges.{all-more, all-same, any-same}
 use Rattle.curve.proofs.Searched.{count-most}
 use Rattle.rating.specs.declared.kinds.Kind.{Kind}
 use Rattle.rating.specs.declared.kinds.Named.{Named}

@@ -34,7 +34,7 @@ use Rattle.register.proofs.Seen.{Taken, Why, Seen, seen, placed}
 use Rattle.register.proofs.Seen.Why.{damaged, misshapen, unrated, dear, other, crowded}
 use Rattle.register.proofs.Seen.Seen.{turned, retried, added}
 use Rattle.register.proofs.Soundness.{sound-most}
-use Rattle.register.proofs.Tests.{any-some, Some}
+use Rattle.laws.proofs.Ranges.{any-some, Some}
 use Rattle.entry.proofs.Texts.{key-same}
 
 -- ---- other customers

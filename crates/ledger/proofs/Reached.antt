@@ -18,8 +18,9 @@ use Rattle.quantity.specs.Refusals.{numberOf}
 use Rattle.quantity.specs.declared.quantities.BandSet.{BandSet}
 use Rattle.quantity.specs.declared.refusals.Refusal.{Refusal}
 use Rattle.quantity.specs.declared.refusals.Refusal.the-variants.{BandCount, BandRange, RegisterDamaged}
-use Rattle.curve.specs.Bands.{anyTo, accepted}
-use Rattle.curve.proofs.Walks.{all-at, any-same}
+use Rattle.curve.specs.Bands.{accepted}
+use Rattle.laws.specs.Tests.{anyTo}
+use Rattle.laws.proofs.Ranges.{all-at, any-same}
 use Rattle.rating.specs.declared.kinds.Kind.{Kind}
 use Rattle.rating.specs.declared.kinds.Kind.the-variants.{A3}
 use Rattle.rating.specs.declared.kinds.Named.{Named}

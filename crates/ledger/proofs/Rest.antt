@@ -12,8 +12,8 @@ use lib.Seq.{getD-append-seam}
 use Rattle.laws.specs.Sums.{sumTo}
 use Rattle.laws.proofs.Sums.{sum-same, sum-const, sum-plus, sum-zeros}
 use Rattle.laws.proofs.Tests.{never, refuted, both}
-use Rattle.curve.specs.Bands.{anyTo}
-use Rattle.curve.proofs.Walks.{all-at, any-same}
+use Rattle.laws.specs.Tests.{anyTo}
+use Rattle.laws.proofs.Ranges.{all-at, any-same, any-none, any-mono}
 use Rattle.entry.specs.declared.entries.Entry.{Entry}
 use Rattle.register.specs.declared.registers.Register.{Register}
 use Rattle.entry.specs.Entries.{sameKey, sameBands, entryOk, noEntry}
@@ -24,7 +24,6 @@ use Rattle.ledger.proofs.Grown.{Grown, each-to, opened-grown, with-grow
 use Rattle.ledger.proofs.Moves.{theirs, others-goes, others-stays, others-most, closed-is}
 use Rattle.ledger.proofs.Sameness.{same-entry, sound-same}
 use Rattle.register.proofs.Soundness.{all-ok, sound-fresh, sound-most}
-use Rattle.register.proofs.Tests.{any-none, any-mono}
 use Rattle.entry.proofs.Texts.{key-same}
 
 -- ---- the others, entered one by one

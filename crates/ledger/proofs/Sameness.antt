@@ -15,8 +15,8 @@ use Rattle.laws.proofs.Tests.{never}
 use Rattle.quantity.specs.Keys.{keyShape}
 use Rattle.quantity.specs.Quantities.{priced}
 use Rattle.quantity.specs.declared.refusals.Refusal.the-variants.{NotRequest, PriceRange, OtherBands, RegisterFull, RegisterDamaged}
-use Rattle.curve.specs.Bands.{allTo, anyTo, bit}
-use Rattle.curve.proofs.Walks.{all-same, any-same}
+use Rattle.laws.specs.Tests.{allTo, anyTo, bit}
+use Rattle.laws.proofs.Ranges.{all-same, any-same}
 use Rattle.rating.specs.declared.kinds.Kind.{Kind}
 use Rattle.rating.specs.declared.kinds.Named.{Named}
 use Rattle.rating.specs.declared.kinds.Named.the-variants.{Is, Unknown}

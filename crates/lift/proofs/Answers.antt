@@ -30,11 +30,12 @@ use Rattle.rating.specs.Numbers.{entriesOf, numbersOf, ratingAt}
 use Rattle.rating.specs.Sheets.{asked, sheetOf, ratedOf}
 use Rattle.rating.proofs.Facts.{count-of, entries-fit}
 use Rattle.sets.specs.Gains.{byGains, Countable, Gained}
-use Rattle.sets.proofs.Tests.{is-true, is-false}
+use Rattle.laws.proofs.Tests.{is-true, is-false}
 use Rattle.lift.specs.declared.lists.Lifted.{Lifted}
 use Rattle.lift.specs.declared.lists.Lifted.the-variants.{Count, Refused}
 use Rattle.lift.specs.Reach.{betterBy, liftList}
-use Rattle.lift.specs.Calls.{inTargets, placesOf, countOf, answerBy, answerOf, front, RatedIs, LiftIs}
+use Rattle.lift.specs.Calls.{inTargets, placesOf, countOf, answerBy, answerOf, RatedIs, LiftIs}
+use Rattle.laws.specs.Lists.{front}
 use Rattle.lift.proofs.Listing.{can-count, position-small, above-limit, need-small, gains-small, list-is, list-room}
 
 -- ---- the range of targets

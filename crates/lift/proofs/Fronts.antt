@@ -6,7 +6,7 @@ use Prim.Native.Nat.{ℕ, suc, _≤_, _<_}
 use native.Mathlib.Omega.{arith}
 use lib.ListN.{length, getD, drop, set, length-append, length-drop}
 use lib.Seq.{drop-cons, set-append-seam}
-use Rattle.lift.specs.Calls.{front}
+use Rattle.laws.specs.Lists.{front}
 
 pub front-none : (b : List ℕ) → b ≡ front [] b
 unfolding front

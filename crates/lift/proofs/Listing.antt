@@ -20,7 +20,8 @@ use Rattle.laws.proofs.Sums.{sum-same, sum-plus}
 use Rattle.quantity.specs.Quantities.{inRange, bandOf}
 use Rattle.quantity.specs.declared.quantities.BandSet.{BandSet}
 use Rattle.quantity.proofs.Rim.{sum-value, difference-value}
-use Rattle.curve.specs.Bands.{accepted, anyTo, bit}
+use Rattle.curve.specs.Bands.{accepted}
+use Rattle.laws.specs.Tests.{anyTo, bit}
 use Rattle.curve.specs.Levels.{at, levelBy, levelAt, startAt}
 use Rattle.curve.proofs.Walks.{total-most}
 use Rattle.curve.proofs.Counted.{counted, level-parts}
@@ -36,7 +37,9 @@ use Rattle.rating.proofs.Meaning.{total-is, rating-is}
 use Rattle.sets.specs.Masks.{isMask, smaller, choose, masksInOrder, filter}
 use Rattle.sets.specs.Highest.{highest}
 use Rattle.sets.specs.Gains.{targetAt, lacking, gain, gainsOf, listedBy, byGains, Countable, Gained}
-use Rattle.sets.proofs.Tests.{holds, is-true, one-test, and-left, and-right, all-same, Passing, any-read}
+use Rattle.sets.proofs.Tests.{Passing, any-read}
+use Rattle.laws.proofs.Tests.{holds, is-true, one-test, and-left, and-right}
+use Rattle.laws.proofs.Ranges.{all-same}
 use Rattle.sets.proofs.Filters.{filter-same, filter-twice, filter-length, each-of}
 use Rattle.sets.proofs.Enumeration.{all-sets, fewer, higher, high-bands, set-word, set-some}
 use Rattle.sets.proofs.Counting.{best-in, best-most}

@@ -24,7 +24,8 @@ ghost use Rattle.rating.specs.Kinds.{airborne, bandsOf};
 ghost use Rattle.rating.specs.Curve.{ratingOf};
 ghost use Rattle.sets.specs.Gains.{listedBy, byGains};
 ghost use Rattle.lift.specs.Reach.{betterBy, liftList};
-ghost use Rattle.lift.specs.Calls.{inTargets, placesOf, front, RatedIs, LiftIs};
+ghost use Rattle.lift.specs.Calls.{inTargets, placesOf, RatedIs, LiftIs};
+ghost use Rattle.laws.specs.Lists.{front};
 
 // How many sets are listed, or why none can be.
 pub enum Lifted {

@@ -1,15 +1,15 @@
 -- The mean of three over ℤ is the mean of three naturals counted from one floor: so it lies between the least and the greatest
 -- of the three, its v is the paper's number, and the mean of band values is a band value. Assumes nothing.
-use mathlib.Core.Path.{_≡_, refl, sym, ap, ap₂, subst}
-use mathlib.Core.Bool.{Bool, true, false, cond}
+use mathlib.Core.Path.{_≡_, sym, ap, ap₂, subst}
+use mathlib.Core.Bool.{true}
 use Prim.Native.Nat.{ℕ, _+_, _-_, _≤_, min, max}
 use native.Mathlib.Omega.{arith}
 use lib.Dec.{leb}
 use lib.IntN.{ℤ, pos, _-ℤ_}
-use lib.Signed.{leZ, _≤ℤ_}
-use Rattle.laws.specs.Parts.{P, N}
+use lib.Signed.{_≤ℤ_}
+use Rattle.laws.specs.Parts.{P, N, lesser, greater}
 use Rattle.laws.specs.Extremes.{Number}
-use Rattle.laws.proofs.Ints.{plus, minus, apart, eq-made, le-made, le-yes, le-no}
+use Rattle.laws.proofs.Ints.{plus, minus, apart, eq-made, le-made}
 use Rattle.quantity.specs.Quantities.{inRange}
 use Rattle.quantity.proofs.Rim.{range-read, range-yes}
 use Rattle.energy.specs.Energies.{F}
@@ -17,27 +17,9 @@ use Rattle.energy.specs.Means.{v, least₃, sum₃, mean₃}
 use Rattle.energy.proofs.Between.{greatest₃, mean-between}
 use Rattle.energy.proofs.Threes.{sum-bounds}
 use Rattle.energy.proofs.Bounds.{G, v-by-G}
-use Rattle.curve.proofs.Counted.{Up}
-use Rattle.rating.specs.Terms.{lesser, greater}
+use Rattle.laws.proofs.Counted.{Up}
 use Rattle.means.specs.Means.{leastOf₃, energiesOf₃, meanOf₃}
-
-lesser-up : (c : ℕ) (x y : ℤ) (a b : ℕ) → Up c x a → Up c y b → Up c (lesser x y) (min a b)
-lesser-up c x y a b p q = go (leZ x y) refl
-  where
-    go : (t : Bool) → leZ x y ≡ t → Up c (cond t x y) (min a b)
-    go true e = omega (arith, le-yes x y e)
-    go false e = omega (arith, le-no x y e)
-
-greater-up : (c : ℕ) (x y : ℤ) (a b : ℕ) → Up c x a → Up c y b → Up c (greater x y) (max a b)
-greater-up c x y a b p q = go (leZ x y) refl
-  where
-    go : (t : Bool) → leZ x y ≡ t → Up c (cond t y x) (max a b)
-    go true e = omega (arith, le-yes x y e)
-    go false e = omega (arith, le-no x y e)
-
--- what lies above the least is the same number
-above-up : (c : ℕ) (x m : ℤ) (a l : ℕ) → Up c x a → Up c m l → l ≤ a → P (x -ℤ m) ≡ a - l
-above-up c x m a l p q h = omega (arith, minus x m, apart (x -ℤ m))
+use Rattle.laws.proofs.Counted.{lesser-up, greater-up, above-up}
 
 -- three values and their counts from one floor
 pub record Three (c : ℕ) (x y z : ℤ) (a b d : ℕ) : Type 0 where

@@ -10,7 +10,7 @@ use borrow.Author.Tests.{eq-eqb, ne-eqb}
 use lib.Dec.{eqb}
 use lib.Pow.{pow-add, pow-mono, shl-exact, shl-shr, mod-pow-add}
 use Rattle.measurement.specs.Lists.{weightOf}
-use Rattle.curve.specs.Bands.{bit}
+use Rattle.laws.specs.Tests.{bit}
 use Rattle.means.specs.Sets.{marksTo}
 
 pub first-marked : (a b c : Bool) → a ≡ true → true ≡ a || (b || c)

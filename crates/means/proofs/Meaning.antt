@@ -9,7 +9,7 @@ use borrow.Author.Tests.{lt-ltb}
 use lib.Dec.{ltb}
 use lib.IntN.{ℤ}
 use Rattle.laws.proofs.Lists.{listed-at}
-use Rattle.quantity.specs.Quantities.{inRange, bandOf}
+use Rattle.quantity.specs.Quantities.{inRange, bandOf, tenths}
 use Rattle.quantity.specs.declared.quantities.Tenths.{Tenths}
 use Rattle.quantity.specs.declared.quantities.BandSet.{BandSet}
 use Rattle.quantity.specs.declared.quantities.Reading.{Reading}
@@ -18,14 +18,14 @@ use Rattle.measurement.specs.declared.lists.Readings.{Readings}
 use Rattle.measurement.specs.declared.lists.Intake.{Intake}
 use Rattle.measurement.specs.Lists.{nought, allOf, refusalIn}
 use Rattle.measurement.proofs.Runs.{outcome-is}
-use Rattle.curve.specs.Bands.{accepted, bit}
-use Rattle.curve.proofs.Walks.{all-made}
+use Rattle.curve.specs.Bands.{accepted}
+use Rattle.laws.specs.Tests.{bit}
+use Rattle.laws.proofs.Ranges.{all-made}
 use Rattle.curve.proofs.Searched.{band-in}
 use Rattle.rating.specs.declared.kinds.Kind.the-variants.{A1}
 use Rattle.rating.specs.declared.sheets.Rated.the-variants.{Rating}
 use Rattle.rating.specs.Sheets.{sheetOf, ratedOf}
 use Rattle.rating.proofs.Rated.{in-order}
-use Rattle.rooms.specs.Background.{tenths}
 use Rattle.means.specs.Sets.{placed, meanAt, markAt, meansOf, octavesOf, specimensOf}
 use Rattle.means.proofs.Averages.{mean-range}
 use Rattle.means.proofs.Marks.{marks-bit}

@@ -11,7 +11,7 @@ use borrow.Author.Tests.{lt-ltb, le-ltb, eqb-true, ne-eqb}
 use lib.Dec.{eqb, ltb}
 use lib.IntN.{ℤ, pos}
 use Rattle.laws.specs.Lists.{listed}
-use Rattle.quantity.specs.Quantities.{bandOf}
+use Rattle.quantity.specs.Quantities.{bandOf, tenths}
 use Rattle.quantity.specs.declared.quantities.BandSet.{BandSet}
 use Rattle.quantity.specs.declared.quantities.Reading.{Reading}
 use Rattle.quantity.specs.declared.refusals.Refusal.the-variants.{BandCount, BandRange, SpecimenCount}
@@ -19,9 +19,8 @@ use Rattle.quantity.specs.declared.refusals.Outcome.the-variants.{Accepted}
 use Rattle.measurement.specs.declared.lists.Readings.{Readings}
 use Rattle.measurement.specs.Lists.{weightOf, allOf, refusedList}
 use Rattle.measurement.proofs.Past.{Alike, all-past}
-use Rattle.curve.specs.Bands.{bit}
+use Rattle.laws.specs.Tests.{bit}
 use Rattle.rating.proofs.Theorems.{accepted-same, Stated, past-by}
-use Rattle.rooms.specs.Background.{tenths}
 use Rattle.means.specs.Means.{meanOf₃}
 use Rattle.means.specs.Sets.{marksTo, meanAt, markAt, meansOf, octavesOf, specimensBy, specimensOf}
 

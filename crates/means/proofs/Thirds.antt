@@ -10,7 +10,7 @@ use lib.Dec.{ltb}
 use lib.IntN.{ℤ}
 use lib.ListN.{getD, set, replicate}
 use Rattle.laws.specs.Lists.{listed}
-use Rattle.quantity.specs.Quantities.{inRange, bandOf}
+use Rattle.quantity.specs.Quantities.{inRange, bandOf, tenths}
 use Rattle.quantity.specs.declared.quantities.Tenths.{Tenths}
 use Rattle.quantity.specs.declared.quantities.BandSet.{BandSet}
 use Rattle.quantity.specs.declared.quantities.Reading.{Reading}
@@ -24,7 +24,6 @@ use Rattle.measurement.proofs.Runs.{outcome-is, accepted-is}
 use Rattle.measurement.proofs.Meaning.{value-range}
 use Rattle.curve.specs.Bands.{accepted}
 use Rattle.curve.proofs.Searched.{band-in}
-use Rattle.rooms.specs.Background.{tenths}
 use Rattle.means.specs.Sets.{marksTo, meanAt, markAt, meansOf, octavesOf, placed, specimensBy, specimensOf}
 use Rattle.means.proofs.Filling.{Filled, filled-none, filled-more, filled-list}
 use Rattle.means.proofs.Marks.{marks-none, marks-more}

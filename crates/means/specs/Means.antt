@@ -1,10 +1,9 @@
 -- Document 01, "Sums of energies": the mean of three values in tenths.
 use Prim.Native.Nat.{ℕ, _+_}
 use lib.IntN.{ℤ, pos, _+ℤ_, _-ℤ_}
-use Rattle.laws.specs.Parts.{P}
+use Rattle.laws.specs.Parts.{P, lesser}
 use Rattle.energy.specs.Energies.{F}
 use Rattle.energy.specs.Means.{v}
-use Rattle.rating.specs.Terms.{lesser}
 
 -- "m the least"
 abbrev pub leastOf₃ : ℤ → ℤ → ℤ → ℤ

@@ -28,9 +28,8 @@ use Rattle.measurement.specs.declared.lists.Intake.{Intake}
 use Rattle.measurement.specs.Lists.{takenAt, nought, valueOf, limitOf, outcomeOf, refusalIn, weightOf, marksIn, valuesIn, setOf, refusedList, listBy, listOf}
 use Rattle.intake.proofs.Meaning.{taken-range}
 use Rattle.measurement.proofs.Runs.{marks-bound, value-at}
-
-clash : _≡_ {A = ℕ} 0 1 → ⊥
-clash z = omega arith
+use Rattle.laws.specs.Extremes.{one-if}
+use Rattle.laws.proofs.Tests.{clash}
 
 -- ---- the first refusal
 
@@ -48,13 +47,8 @@ pub record Kept (t : Taken) : Type 0 where
 
 after-accepted : (o : Outcome) (t : Taken) → orElse o (outcomeOf t) ≡ Accepted → (o ≡ Accepted) × Kept t
 after-accepted Accepted (one.Value v l) e = (refl, record { value = v; limit = l; same = refl })
-after-accepted Accepted (one.Refused r) e = absurd (clash (cc))
-after-accepted (Refused r) t e = absurd (clash (cc))
-
--- a mark as a bit
-abbrev pub bitOf : Bool → ℕ
-bitOf true = 1
-bitOf false = 0
+after-accepted Accepted (one.Refused r) e = clash cc
+after-accepted (Refused r) t e = clash cc
 
 -- a power of two above bit i leaves it as it is
 lower : (m : ℕ) (b : Bool) (n i : ℕ) → i < n → (m + weightOf b n) / 2 ^ i % 2 ≡ m / 2 ^ i % 2
@@ -71,7 +65,7 @@ lower m true n i h =
     split i n h = omega arith
 
 -- and the power at bit n is that bit
-top : (m : ℕ) (b : Bool) (n : ℕ) → m < 2 ^ n → (m + weightOf b n) / 2 ^ n % 2 ≡ bitOf b
+top : (m : ℕ) (b : Bool) (n : ℕ) → m < 2 ^ n → (m + weightOf b n) / 2 ^ n % 2 ≡ one-if b
 top m false n h = ap (λ (x : ℕ). x % 2) (ap (λ (x : ℕ). x / 2 ^ n) (add-zero m) ∙ div-eq-of-lt h)
 top m true n h =
     let e : m + 2 ^ n ≡ 1 * 2 ^ n + m = omega arith in
@@ -99,12 +93,12 @@ module _ (readings : List Reading) where
   -- the refusal given is that of the lowest reading that is refused
   pub first-refusal : (n : ℕ) (r : Refusal) → refusalIn readings n ≡ Refused r → Met n r
   unfolding refusalIn
-  first-refusal zero r e = absurd (clash (cc))
+  first-refusal zero r e = clash cc
   first-refusal (suc n) r e = go (refusalIn readings n) (takenAt readings n) refl refl e (λ f. first-refusal n r f)
     where
       go : (o : Outcome) (t : Taken) → refusalIn readings n ≡ o → takenAt readings n ≡ t → orElse o (outcomeOf t) ≡ Refused r
           → (refusalIn readings n ≡ Refused r → Met n r) → Met (suc n) r
-      go Accepted (one.Value v l) f g h below = absurd (clash (cc))
+      go Accepted (one.Value v l) f g h below = clash cc
       go Accepted (one.Refused q) f g h below =
           record { at = n; first = record { within = omega arith; refused = cc; before = f } }
       go (Refused q) t f g h below =
@@ -128,7 +122,7 @@ module _ (readings : List Reading) where
 
   -- ---- bit i of the marks is the mark of reading i, and 0 past the last
 
-  pub mark-here : (n i : ℕ) → i < n → marksIn readings n / 2 ^ i % 2 ≡ bitOf (limitOf (takenAt readings i))
+  pub mark-here : (n i : ℕ) → i < n → marksIn readings n / 2 ^ i % 2 ≡ one-if (limitOf (takenAt readings i))
   unfolding marksIn
   mark-here zero i h = absurd (omega arith)
   mark-here (suc n) i h = go (λ p. mark-here n i p) (decLt i n)
@@ -136,14 +130,14 @@ module _ (readings : List Reading) where
       b : Bool
       b = limitOf (takenAt readings n)
 
-      go : (i < n → marksIn readings n / 2 ^ i % 2 ≡ bitOf (limitOf (takenAt readings i))) → Dec (i < n)
-          → (marksIn readings n + weightOf b n) / 2 ^ i % 2 ≡ bitOf (limitOf (takenAt readings i))
+      go : (i < n → marksIn readings n / 2 ^ i % 2 ≡ one-if (limitOf (takenAt readings i))) → Dec (i < n)
+          → (marksIn readings n + weightOf b n) / 2 ^ i % 2 ≡ one-if (limitOf (takenAt readings i))
       go below (yes p) = lower (marksIn readings n) b n i p ∙ below p
       go below (no p) =
           let q : i ≡ n = omega arith in
           ap (λ (k : ℕ). (marksIn readings n + weightOf b n) / 2 ^ k % 2) q
           ∙ top (marksIn readings n) b n (marks-bound readings n)
-          ∙ ap (λ (k : ℕ). bitOf (limitOf (takenAt readings k))) (sym q)
+          ∙ ap (λ (k : ℕ). one-if (limitOf (takenAt readings k))) (sym q)
 
   pub mark-past : (n i : ℕ) → n ≤ i → marksIn readings n / 2 ^ i ≡ 0
   mark-past n i h = div-eq-of-lt (lt-of-lt-of-le (marks-bound readings n) (pow-mono h))
@@ -163,8 +157,8 @@ list-accepts readings len bands r e f = go (eqb len bands) (refusalIn readings b
     go : (b : Bool) (o : Outcome) → (b ≡ true → len ≡ bands) → refusalIn readings bands ≡ o
         → r ≡ cond b (listBy o readings bands) (refusedList BandCount) → Accepts readings len bands r
     go true Accepted h g k = record { count = h refl; accepted = g; taken = ap (λ (x : Intake). x .set) k }
-    go true (Refused q) h g k = absurd (clash (cc (ap (λ (x : Intake). x .outcome) k)))
-    go false o h g k = absurd (clash (cc (ap (λ (x : Intake). x .outcome) k)))
+    go true (Refused q) h g k = clash (cc (ap (λ (x : Intake). x .outcome) k))
+    go false o h g k = clash (cc (ap (λ (x : Intake). x .outcome) k))
 
 -- each band of an accepted list is in range
 pub list-range : (readings : List Reading) (len bands : ℕ) (r : Intake) (i : ℕ) → Accepts readings len bands r → i < bands → bands ≤ 16
@@ -179,6 +173,6 @@ unfolding listOf
 list-refuses readings len bands r q e f = go (eqb len bands) (refusalIn readings bands) e
   where
     go : (b : Bool) (o : Outcome) → r ≡ cond b (listBy o readings bands) (refusedList BandCount) → r ≡ refusedList q
-    go true Accepted k = absurd (clash (cc (ap (λ (x : Intake). x .outcome) k)))
+    go true Accepted k = clash (cc (ap (λ (x : Intake). x .outcome) k))
     go true (Refused p) k = k ∙ ap refusedList (cc (ap (λ (x : Intake). x .outcome) k))
     go false o k = k ∙ ap refusedList (cc (ap (λ (x : Intake). x .outcome) k))

@@ -11,7 +11,8 @@ use Rattle.laws.specs.Sums.{sumTo, sumℤ}
 use Rattle.quantity.specs.Quantities.{halfUp, inRange}
 use Rattle.energy.specs.Energies.{F, energyRule, u, levelRule}
 use Rattle.energy.specs.Corrections.{c, k, backgroundRule, timeRule}
-use Rattle.curve.specs.Bands.{accepted, limited, allTo, anyTo}
+use Rattle.curve.specs.Bands.{accepted, limited}
+use Rattle.laws.specs.Tests.{allTo, anyTo}
 use Rattle.curve.specs.Levels.{levelBy, totalAt}
 use Rattle.rating.specs.declared.kinds.Kind.{Kind}
 use Rattle.rating.specs.declared.kinds.Kind.the-variants.{A3}

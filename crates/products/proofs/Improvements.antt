@@ -11,18 +11,17 @@ use lib.ListN.{getD, List·getD-map}
 use Rattle.laws.specs.Lists.{listed}
 use Rattle.laws.proofs.Ints.{minus, eq-made}
 use Rattle.laws.proofs.Table.{at}
-use Rattle.quantity.specs.Quantities.{bandOf}
+use Rattle.quantity.specs.Quantities.{bandOf, tenths}
 use Rattle.quantity.specs.declared.quantities.Tenths.{Tenths}
 use Rattle.quantity.specs.declared.quantities.BandSet.{BandSet}
 use Rattle.quantity.specs.declared.refusals.Refusal.{Refusal}
 use Rattle.quantity.specs.declared.refusals.Refusal.the-variants.{BandCount, BandRange, DerivedRange}
 use Rattle.curve.specs.Bands.{accepted, limited}
-use Rattle.curve.proofs.Counted.{Up}
+use Rattle.laws.proofs.Counted.{Up}
 use Rattle.rating.specs.declared.kinds.Kind.the-variants.{I3}
 use Rattle.rating.specs.declared.sheets.Sheet.{Sheet}
 use Rattle.rating.specs.declared.sheets.Rated.the-variants as rated
 use Rattle.rating.specs.Sheets.{sheetOf, ratedOf}
-use Rattle.rooms.specs.Background.{tenths}
 use Rattle.products.specs.declared.covers.Cover.{Cover}
 use Rattle.products.specs.declared.covers.Cover.the-variants.{Refused}
 use Rattle.products.specs.Covers.{floor, floorAt, derivedSet, improvementOf, coverOf}

@@ -8,7 +8,7 @@ use borrow.Author.Tests.{ne-eqb}
 use lib.Dec.{eqb}
 use lib.IntN.{ℤ, _-ℤ_}
 use Rattle.laws.proofs.Lists.{listed-at}
-use Rattle.quantity.specs.Quantities.{bandOf}
+use Rattle.quantity.specs.Quantities.{bandOf, tenths}
 use Rattle.quantity.specs.declared.quantities.Tenths.{Tenths}
 use Rattle.quantity.specs.declared.quantities.BandSet.{BandSet}
 use Rattle.quantity.specs.declared.quantities.Reading.{Reading}
@@ -16,13 +16,12 @@ use Rattle.quantity.specs.declared.refusals.Refusal.the-variants.{BandCount, Ba
 use Rattle.measurement.specs.declared.lists.Intake.{Intake}
 use Rattle.measurement.specs.Lists.{nought}
 use Rattle.measurement.proofs.Past.{Alike}
-use Rattle.curve.specs.Bands.{bit}
+use Rattle.laws.specs.Tests.{bit}
 use Rattle.rating.specs.declared.kinds.Kind.the-variants.{I3}
 use Rattle.rating.specs.declared.sheets.Rated.{Rated}
 use Rattle.rating.specs.declared.sheets.Rated.the-variants as rated
 use Rattle.rating.specs.Sheets.{ratedOf}
 use Rattle.rating.proofs.Theorems.{accepted-same, limited-same, Stated, past-by, past-length}
-use Rattle.rooms.specs.Background.{tenths}
 use Rattle.means.proofs.Past.{specimens-past}
 use Rattle.products.specs.declared.covers.Cover.the-variants.{Refused}
 use Rattle.products.specs.declared.grades.Side.{Side}

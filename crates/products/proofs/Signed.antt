@@ -6,7 +6,7 @@ use mir.Syntax.{w32}
 use mir.Val.{SFits, toZ, ofZ}
 use mir.Facts.{toZ-ofZ}
 use Rattle.laws.proofs.Ints.{plus, minus, apart, opposite, eq-made, fits-made}
-use Rattle.rooms.proofs.Counts.{near}
+use Rattle.quantity.proofs.Counts.{near}
 use Rattle.rating.specs.Bounds.{Small}
 
 -- read back from its bits

@@ -6,7 +6,7 @@ use lib.Dec.{eqb}
 use lib.IntN.{ℤ, pos, negℤ, _+ℤ_, _-ℤ_}
 use lib.ListN.{getD}
 use Rattle.laws.specs.Lists.{listed}
-use Rattle.quantity.specs.Quantities.{bandOf}
+use Rattle.quantity.specs.Quantities.{bandOf, tenths}
 use Rattle.quantity.specs.Refusals.{numberOf}
 use Rattle.quantity.specs.Answers.{Answer, flag}
 use Rattle.quantity.specs.Answers.Answer.{refused, numbers}
@@ -19,7 +19,6 @@ use Rattle.rating.specs.declared.sheets.Rated.{Rated}
 use Rattle.rating.specs.declared.sheets.Rated.the-variants as rated
 use Rattle.rating.specs.Kinds.{bandsOf}
 use Rattle.rating.specs.Sheets.{ratedOf, decibels}
-use Rattle.rooms.specs.Background.{tenths}
 use Rattle.products.specs.declared.covers.Cover.{Cover}
 use Rattle.products.specs.declared.covers.Cover.the-variants.{Improvement, Refused}
 

@@ -6,6 +6,7 @@ use lib.Dec.{leb}
 use lib.IntN.{ℤ, pos, negsuc, _+ℤ_}
 use lib.Signed.{leZ, shrZ, _≤ℤ_}
 use lib.ListN.{getD}
+use Rattle.quantity.specs.declared.quantities.Tenths.{Tenths}
 use Rattle.quantity.specs.declared.quantities.BandSet.{BandSet}
 
 -- z lies from a to b
@@ -16,6 +17,10 @@ pub record InRange (a b z : ℤ) : Type 0 where
 -- "Every measured or derived band value lies in -200..1500 tenths."
 unfoldable pub inRange : ℤ → Bool
 inRange z = leZ (negsuc 199) z && leZ z (pos 1500)
+
+-- a value in tenths
+abbrev pub tenths : ℤ → Tenths
+tenths z = record { 0 = z }
 
 -- "rounded to a whole dB, half going up": of t tenths, the whole part of (t + 5) / 10, taken downward
 unfoldable pub halfUp : ℤ → ℤ

@@ -20,7 +20,7 @@ use Rattle.register.specs.declared.steps.Step.{Step}
 use Rattle.entry.specs.Entries.{sameKey, sameBands, Call, entryOf}
 use Rattle.register.specs.Registers.{entryAt, sound, known, held, Due, placeDue, dueOf, billedBy, billedOf, afterBy, afterOf}
 use Rattle.register.specs.Registers.Due.{refuse, repeat, enter}
-use Rattle.register.proofs.Tests.{any-none, any-found, any-mono}
+use Rattle.laws.proofs.Ranges.{any-none, any-found, any-mono}
 use Rattle.entry.proofs.Texts.{key-sym, key-trans}
 use Rattle.register.proofs.Places.{Missed}
 use Rattle.register.proofs.Soundness.{sole}

@@ -1,5 +1,4 @@
 -- Laws of the register.
-pub mod Tests
 pub mod Places
 pub mod Soundness
 pub mod Dues

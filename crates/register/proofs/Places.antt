@@ -8,15 +8,14 @@ use native.Mathlib.Decide.{ℕ-discrete, decLt}
 use native.Mathlib.Omega.{arith}
 use lib.ListN.{length, getD, set, length-set}
 use lib.Seq.{getD-set-same, getD-set-other}
-use Rattle.curve.specs.Bands.{allTo, anyTo}
-use Rattle.curve.proofs.Walks.{all-none, all-more, all-fails}
+use Rattle.laws.specs.Tests.{allTo, anyTo}
+use Rattle.laws.proofs.Ranges.{all-none, all-more, all-fails, any-none, any-found, any-more}
 use Rattle.entry.specs.declared.entries.Entry.{Entry}
 use Rattle.entry.proofs.Keys.{word-apart}
 use Rattle.register.specs.declared.registers.Register.{Register}
 use Rattle.entry.specs.Entries.{sameKey, wordOf}
 use Rattle.register.specs.Registers.{entryAt, repeated}
 use Rattle.register.specs.Looks.{PlaceOf}
-use Rattle.register.proofs.Tests.{any-none, any-found, any-more}
 
 -- ---- the place of a customer and key
 -- none of the first i entries has them

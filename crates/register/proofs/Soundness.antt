@@ -12,8 +12,8 @@ use Rattle.laws.specs.Sums.{sumTo}
 use Rattle.laws.proofs.Sums.{sum-more}
 use Rattle.quantity.specs.declared.quantities.Fen.{Fen}
 use Rattle.quantity.specs.declared.refusals.Refusal.the-variants.{RegisterDamaged}
-use Rattle.curve.specs.Bands.{allTo}
-use Rattle.curve.proofs.Walks.{all-at}
+use Rattle.laws.specs.Tests.{allTo}
+use Rattle.laws.proofs.Ranges.{all-at, any-found}
 use Rattle.rating.specs.declared.sheets.Rated.the-variants.{Refused}
 use Rattle.entry.specs.declared.entries.Entry.{Entry}
 use Rattle.entry.proofs.Oks.{ok-short, ok-priced}
@@ -22,7 +22,6 @@ use Rattle.register.specs.declared.totals.Owed.the-variants as owed
 use Rattle.entry.specs.Entries.{sameKey, entryOk}
 use Rattle.register.specs.Registers.{entryAt, repeated, sound, priceFor, totalIn, owedOf}
 use Rattle.register.specs.Looks.{Short, WordsOf, LookedAt}
-use Rattle.register.proofs.Tests.{any-found}
 use Rattle.entry.proofs.Texts.{key-sym}
 
 -- ---- a register, by the tests of the code in order

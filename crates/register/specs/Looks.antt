@@ -4,7 +4,7 @@ use mathlib.Core.Path.{_≡_}
 use mathlib.Core.Bool.{Bool, true, false}
 use Prim.Native.Nat.{ℕ, _≤_, _<_}
 use lib.ListN.{length, getD}
-use Rattle.curve.specs.Bands.{anyTo}
+use Rattle.laws.specs.Tests.{anyTo}
 use Rattle.entry.specs.declared.entries.Entry.{Entry}
 use Rattle.register.specs.declared.registers.Register.{Register}
 use Rattle.entry.specs.Entries.{sameKey, wordOf}

@@ -4,7 +4,6 @@ use crate::lookup::place_of;
 use crate::registers::Register;
 use entry::entry_ok;
 use entry::word_of;
-ghost use mathlib.Core.Path.{_≡_};
 ghost use Rattle.register.specs.Looks.{LookedAt};
 
 // Whether a register is sound, and the words of its entries where it is.

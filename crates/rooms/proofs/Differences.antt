@@ -8,7 +8,7 @@ use lib.IntN.{ℤ, pos, _+ℤ_, _-ℤ_}
 use Rattle.laws.specs.Extremes.{greatest}
 use Rattle.laws.proofs.Extremes.{greatest-below}
 use Rattle.laws.proofs.Ints.{plus, minus, eq-made, eq-read}
-use Rattle.quantity.specs.Quantities.{inRange}
+use Rattle.quantity.specs.Quantities.{inRange, tenths}
 use Rattle.quantity.specs.declared.quantities.Tenths.{Tenths}
 use Rattle.quantity.specs.declared.quantities.Hundredths.{Hundredths}
 use Rattle.quantity.specs.declared.quantities.Reading.the-variants.{Level}
@@ -21,9 +21,9 @@ use Rattle.intake.specs.declared.singles.Time.the-variants as time
 use Rattle.intake.specs.Taken.{floatTaken, takenOf}
 use Rattle.intake.specs.Times.{timeOf}
 use Rattle.intake.proofs.Meaning.{taken-range}
-use Rattle.curve.proofs.Counted.{Up}
+use Rattle.laws.proofs.Counted.{Up}
 use Rattle.rooms.specs.declared.raw.RawBand.{RawBand}
-use Rattle.rooms.specs.Background.{tenths, fieldMark}
+use Rattle.rooms.specs.Background.{fieldMark}
 use Rattle.rooms.specs.Raw.{difference, derived, rawOf}
 
 -- what k is counted from -70 stays small

@@ -1,10 +1,10 @@
 -- What the definitions mean, in document 01's words: the two background rules part at d = 60. Assumes nothing.
-use mathlib.Core.Path.{_≡_, subst}
-use mathlib.Core.Bool.{Bool, true, false}
-use lib.Dec.{T}
+use mathlib.Core.Path.{_≡_}
+use mathlib.Core.Bool.{true}
 use lib.IntN.{ℤ, pos}
 use Rattle.quantity.specs.Quantities.{inRange}
 use Rattle.rooms.specs.Background.{above, fieldLevel, fieldMark, fieldOf, laboratoryLevel, laboratoryOf}
+use Rattle.laws.proofs.Tests.{clash}
 
 -- ---- "Treating d = 60 alike under both background rules" is a slip: by the field rule the level is a limit, by the
 -- laboratory rule it is none
@@ -12,6 +12,3 @@ pub rules-part : (total background : ℤ) → inRange total ≡ true → inRange
     → fieldOf total background ≡ laboratoryOf total background → ⊥
 unfolding fieldOf fieldLevel fieldMark laboratoryOf laboratoryLevel
 rules-part total background p q d e = clash (cc (rw (p, q, d) at e))
-  where
-    clash : _≡_ {A = Bool} true false → ⊥
-    clash z = subst T z tt

@@ -8,16 +8,15 @@ use lib.IntN.{ℤ, pos, _-ℤ_}
 use lib.Signed.{leZ, ltZ}
 use Rattle.laws.specs.Parts.{P, N}
 use Rattle.laws.proofs.Extremes.{greatest-below}
-use Rattle.laws.proofs.Ints.{minus, apart, eq-made}
-use Rattle.quantity.specs.Quantities.{inRange}
+use Rattle.laws.proofs.Ints.{minus, apart, eq-made, le-true, le-false, lt-true, lt-false}
+use Rattle.quantity.specs.Quantities.{inRange, tenths}
 use Rattle.quantity.proofs.Rim.{range-read}
 use Rattle.quantity.specs.declared.refusals.Refusal.the-variants.{BandRange, Background}
 use Rattle.energy.specs.Corrections.{c, backgroundRule}
 use Rattle.intake.specs.declared.singles.Taken.{Taken}
 use Rattle.intake.specs.declared.singles.Taken.the-variants.{Value, Refused}
-use Rattle.curve.proofs.Counted.{Up}
-use Rattle.rooms.specs.Background.{above, tenths, ranged, fieldLevel, fieldMark, laboratoryLevel}
-use Rattle.rooms.proofs.Counts.{le-true, le-false, lt-true, lt-false}
+use Rattle.laws.proofs.Counted.{Up}
+use Rattle.rooms.specs.Background.{above, ranged, fieldLevel, fieldMark, laboratoryLevel}
 
 pub c-small : (d : ℕ) → c d < 16
 unfolding c

@@ -3,8 +3,7 @@ use mathlib.Core.Bool.{Bool, false, cond}
 use lib.IntN.{ℤ, pos, _-ℤ_}
 use lib.Signed.{leZ, ltZ}
 use Rattle.laws.specs.Parts.{P}
-use Rattle.quantity.specs.Quantities.{inRange}
-use Rattle.quantity.specs.declared.quantities.Tenths.{Tenths}
+use Rattle.quantity.specs.Quantities.{inRange, tenths}
 use Rattle.quantity.specs.declared.refusals.Refusal.the-variants.{BandRange, Background}
 use Rattle.energy.specs.Corrections.{c}
 use Rattle.intake.specs.declared.singles.Taken.{Taken}
@@ -23,9 +22,6 @@ fieldLevel total background =
 -- "and mark the result a limit"
 unfoldable pub fieldMark : ℤ → ℤ → Bool
 fieldMark total background = leZ (above total background) (pos 60)
-
-abbrev pub tenths : ℤ → Tenths
-tenths z = record { 0 = z }
 
 -- a value in range, or refusal 4
 abbrev pub ranged : Bool → Taken → Taken

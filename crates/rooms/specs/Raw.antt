@@ -1,7 +1,7 @@
 -- Document 01, "Background and reverberation": a raw band, and its standardized difference.
 use mathlib.Core.Bool.{Bool, false, cond}
 use lib.IntN.{ℤ, _+ℤ_, _-ℤ_}
-use Rattle.quantity.specs.Quantities.{inRange}
+use Rattle.quantity.specs.Quantities.{inRange, tenths}
 use Rattle.quantity.specs.declared.quantities.Tenths.{Tenths}
 use Rattle.quantity.specs.declared.refusals.Refusal.the-variants.{DerivedRange}
 use Rattle.energy.specs.Corrections.{k}
@@ -12,7 +12,7 @@ use Rattle.intake.specs.declared.singles.Time.the-variants as time
 use Rattle.intake.specs.Taken.{floatTaken}
 use Rattle.intake.specs.Times.{timeOf}
 use Rattle.rooms.specs.declared.raw.RawBand.{RawBand}
-use Rattle.rooms.specs.Background.{fieldLevel, fieldMark, tenths}
+use Rattle.rooms.specs.Background.{fieldLevel, fieldMark}
 
 -- "source less field-corrected receiving level plus k"
 abbrev pub difference : ℤ → ℤ → ℤ → ℤ → ℤ

@@ -12,7 +12,7 @@ use lib.Dec.{T}
 use lib.ListN.{length, getD, take, drop, take-append-drop, length-append}
 use lib.Seq.{take-suc, take-all}
 use Rattle.sets.specs.Masks.{filter}
-use Rattle.sets.proofs.Tests.{holds, is-true, and-left, and-right, and-both}
+use Rattle.laws.proofs.Tests.{holds, is-true, and-left, and-right, and-both}
 
 -- ---- members
 pub record Kept (ok : ℕ → Bool) (l : List ℕ) (m : ℕ) : Type 0 where

@@ -5,8 +5,8 @@ use Prim.Native.Nat.{ℕ, zero, suc, _<_}
 use native.Mathlib.Nat.{le-refl}
 use native.Mathlib.Omega.{arith}
 use lib.Dec.{T}
-use Rattle.curve.specs.Bands.{allTo, anyTo}
-use Rattle.curve.proofs.Walks.{all-at, all-made as all-hold}
+use Rattle.laws.specs.Tests.{allTo, anyTo}
+use Rattle.laws.proofs.Ranges.{all-at, all-made as all-hold}
 
 pub holds : {b : Bool} → b ≡ true → T b
 holds e = subst T (sym e) tt

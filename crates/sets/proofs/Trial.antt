@@ -8,7 +8,7 @@ use native.Mathlib.Omega.{arith}
 use borrow.Author.Tests.{eq-eqb, ne-eqb, le-leb, lt-leb}
 use lib.Dec.{ltb}
 use Rattle.laws.proofs.Sums.{sum-none, sum-more}
-use Rattle.curve.specs.Bands.{bit}
+use Rattle.laws.specs.Tests.{bit}
 use Rattle.sets.specs.Gains.{gainsOf, leastOf, listedBy}
 
 -- ---- the bits that are left

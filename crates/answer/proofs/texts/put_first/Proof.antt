@@ -3,8 +3,9 @@ use mathlib.Core.List.{_∷_}
 use Prim.Native.Nat.{_+_}
 use native.Mathlib.Omega.{arith}
 use lib.ListN.{length}
-use Rattle.answer.specs.Texts.{front, numberText, others, secondFields}
-use Rattle.answer.proofs.Fronts.{tail-within, tail-length, tail-home}
+use Rattle.answer.specs.Texts.{numberText, others, secondFields}
+use Rattle.laws.specs.Lists.{front}
+use Rattle.laws.proofs.Fronts.{tail-within, tail-length, tail-home}
 use Rattle.quantity.proofs.Rim.{back}
 use Rattle.answer.proofs.Writers.{others-length, field-front}
 use borrow.Author.Needs.{needs}

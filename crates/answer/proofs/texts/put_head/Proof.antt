@@ -2,8 +2,8 @@ use mathlib.Core.Path.{refl, sym, _∙_, ap}
 use mathlib.Core.List.{List, [], _∷_, _++_}
 use native.Mathlib.Omega.{arith}
 use lib.ListN.{take, drop, length-set, length-take}
-use Rattle.answer.specs.Texts.{front}
-use Rattle.answer.proofs.Fronts.{tail-within, tail-length, tail-home, tail-same}
+use Rattle.laws.specs.Lists.{front}
+use Rattle.laws.proofs.Fronts.{tail-within, tail-length, tail-home, tail-same}
 use Rattle.answer.proofs.Writers.{stored3}
 use borrow.Author.Needs.{needs}
 use Rattle.answer.proofs.texts.put_head.Statement.{statement}

@@ -2,7 +2,7 @@ use mathlib.Core.Path.{_≡_, refl, _∙_, ap}
 use Prim.Native.Nat.{_-_, _≤_}
 use native.Mathlib.Omega.{arith}
 use lib.ListN.{take, drop}
-use Rattle.answer.specs.Texts.{front}
+use Rattle.laws.specs.Lists.{front}
 use Rattle.answer.proofs.Writers.{key-length, key-turn}
 use Rattle.answer.proofs.texts.put_key.Statement.{statement}
 use Rattle.answer.proofs.texts.put_key.Tie as tie

@@ -2,8 +2,9 @@ use mathlib.Core.Path.{_≡_, refl, _∙_, ap}
 use mathlib.Core.List.{[], _∷_}
 use native.Mathlib.Omega.{arith}
 use lib.ListN.{length, length-set}
-use Rattle.answer.specs.Texts.{front, decimal, numberText}
-use Rattle.answer.proofs.Fronts.{front-length, tail-within, tail-length, tail-home}
+use Rattle.answer.specs.Texts.{decimal, numberText}
+use Rattle.laws.specs.Lists.{front}
+use Rattle.laws.proofs.Fronts.{front-length, tail-within, tail-length, tail-home}
 use Prim.Native.Nat.{_<_}
 use mir.Facts.{toZ-ofZ}
 use Rattle.laws.specs.Parts.{P, N}

@@ -2,7 +2,8 @@ use mathlib.Core.Path.{sym, _∙_, ap}
 use mathlib.Core.List.{[], _∷_}
 use native.Mathlib.Omega.{arith}
 use lib.ListN.{length}
-use Rattle.answer.specs.Texts.{front, decimal, others, fieldsOf}
+use Rattle.answer.specs.Texts.{decimal, others, fieldsOf}
+use Rattle.laws.specs.Lists.{front}
 use borrow.Author.Needs.{needs}
 use Rattle.answer.proofs.texts.put_rated.Statement.{statement}
 use Rattle.answer.proofs.texts.put_rated.Tie as tie

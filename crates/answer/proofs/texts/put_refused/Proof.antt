@@ -3,7 +3,7 @@ use mathlib.Core.List.{_∷_}
 use native.Mathlib.Omega.{arith}
 use lib.ListN.{length}
 use Rattle.answer.specs.Texts.{decimal}
-use Rattle.answer.proofs.Fronts.{front-length}
+use Rattle.laws.proofs.Fronts.{front-length}
 use Rattle.answer.proofs.Writers.{refused-length, end-front}
 use borrow.Author.Needs.{needs}
 use Rattle.answer.proofs.texts.put_refused.Statement.{statement}

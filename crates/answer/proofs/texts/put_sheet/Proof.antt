@@ -3,7 +3,7 @@ use mathlib.Core.List.{[], _∷_}
 use native.Mathlib.Omega.{arith}
 use lib.ListN.{length, length-set}
 use Rattle.answer.specs.Texts.{others, ratingFields, sheetFields}
-use Rattle.answer.proofs.Fronts.{front-length, tail-within, tail-length, tail-home}
+use Rattle.laws.proofs.Fronts.{front-length, tail-within, tail-length, tail-home}
 use Rattle.answer.proofs.Writers.{stored2, others-length, field-front}
 use borrow.Author.Needs.{needs}
 use Rattle.answer.proofs.texts.put_sheet.Statement.{statement}

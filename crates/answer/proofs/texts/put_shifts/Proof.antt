@@ -1,7 +1,7 @@
 use mathlib.Core.List.{_∷_}
 use native.Mathlib.Omega.{arith}
 use Rattle.answer.specs.Texts.{decimal, others, markFields}
-use Rattle.answer.proofs.Fronts.{tail-within, tail-length, tail-home}
+use Rattle.laws.proofs.Fronts.{tail-within, tail-length, tail-home}
 use Rattle.answer.proofs.Writers.{others-length, field-front}
 use borrow.Author.Needs.{needs}
 use Rattle.answer.proofs.texts.put_shifts.Statement.{statement}

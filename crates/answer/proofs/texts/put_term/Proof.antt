@@ -3,7 +3,8 @@ use mathlib.Core.List.{_∷_}
 use Prim.Native.Nat.{_+_}
 use native.Mathlib.Omega.{arith}
 use lib.ListN.{length, length-set}
-use Rattle.answer.specs.Texts.{front, numberText, termText}
+use Rattle.answer.specs.Texts.{numberText, termText}
+use Rattle.laws.specs.Lists.{front}
 use Rattle.quantity.proofs.Rim.{back}
 use Rattle.answer.proofs.Writers.{stored2}
 use borrow.Author.Needs.{needs}

@@ -7,7 +7,7 @@ use native.Mathlib.Omega.{arith}
 use borrow.Author.Needs.{needs}
 use Rattle.quantity.specs.Quantities.{inRange, bandOf}
 use Rattle.curve.specs.Bands.{accepted}
-use Rattle.curve.proofs.Walks.{all-none, all-suc}
+use Rattle.laws.proofs.Ranges.{all-none, all-suc}
 use Rattle.curve.proofs.levels.all_in_range.Statement.{statement}
 use Rattle.curve.proofs.levels.all_in_range.Tie as tie
 

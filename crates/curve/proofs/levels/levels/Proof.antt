@@ -2,12 +2,12 @@
 use mathlib.Core.Path.{_≡_, refl, _∙_}
 use Prim.Native.Nat.{ℕ, _-_, _≤_, _<_}
 use native.Mathlib.Omega.{arith}
-use lib.ListN.{length, getD}
-use lib.ListN.{length-set}
+use lib.ListN.{length, getD, length-set}
 use Rattle.quantity.specs.Quantities.{inRange, bandOf}
 use Rattle.curve.specs.Bands.{accepted}
 use Rattle.curve.specs.Levels.{levelBy}
-use Rattle.curve.proofs.Walks.{all-at, put-more}
+use Rattle.curve.proofs.Walks.{put-more}
+use Rattle.laws.proofs.Ranges.{all-at}
 use Rattle.curve.proofs.levels.levels.Statement.{statement}
 use Rattle.curve.proofs.levels.levels.Tie as tie
 

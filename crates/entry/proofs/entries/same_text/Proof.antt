@@ -4,7 +4,7 @@ use mathlib.Core.Path.{_≡_}
 use mathlib.Core.Bool.{true}
 use native.Mathlib.Omega.{arith}
 use lib.ListN.{length}
-use Rattle.curve.proofs.Walks.{all-none}
+use Rattle.laws.proofs.Ranges.{all-none}
 use Rattle.entry.proofs.Texts.{sameTo, text-length, text-other, text-more, text-all}
 use Rattle.entry.proofs.entries.same_text.Statement.{statement}
 use Rattle.entry.proofs.entries.same_text.Tie as tie

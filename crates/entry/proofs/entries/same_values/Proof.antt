@@ -5,7 +5,7 @@ use mathlib.Core.Bool.{true}
 use native.Mathlib.Omega.{arith}
 use borrow.Author.Needs.{needs}
 use borrow.Author.Tests.{not-true, not-false}
-use Rattle.curve.proofs.Walks.{all-none, all-more, all-fails}
+use Rattle.laws.proofs.Ranges.{all-none, all-more, all-fails}
 use Rattle.entry.specs.Entries.{valueOf, sameValue, sameValues}
 use Rattle.entry.proofs.entries.same_values.Statement.{statement}
 use Rattle.entry.proofs.entries.same_values.Tie as tie

@@ -5,7 +5,7 @@ use mathlib.Core.List.{List}
 use Prim.Native.Nat.{ℕ}
 use borrow.Author.Needs.{needs}
 use lib.ListN.{length}
-use Rattle.lift.specs.Calls.{front}
+use Rattle.laws.specs.Lists.{front}
 use Rattle.lift.proofs.Answers.{Worked, asks-count, asks-gains, worked}
 use Rattle.lift.proofs.lists.list.Statement.{statement}
 use Rattle.lift.proofs.lists.list.Tie as tie

@@ -6,7 +6,7 @@ use mathlib.Core.Logic.{⊎-elim}
 use Prim.Native.Nat.{ℕ, _*_, _-_, _/_, _^_, _≤_}
 use native.Mathlib.Omega.{arith}
 use borrow.Author.Needs.{needs}
-use Rattle.curve.specs.Bands.{bit}
+use Rattle.laws.specs.Tests.{bit}
 use Rattle.curve.specs.Levels.{at}
 use Rattle.sets.specs.Gains.{gainsOf, leastOf}
 use Rattle.sets.proofs.Trial.{rest-all, rest-more, bit-yes, bit-no, gains-none, gains-with, gains-without, least-none, least-with, least-without, too-little, enough}

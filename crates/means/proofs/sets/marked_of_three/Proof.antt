@@ -2,7 +2,7 @@
 use borrow.Author.Needs.{needs}
 use mathlib.Core.Path.{sym, _∙_}
 use Prim.Native.Nat.{_+_, _*_}
-use Rattle.curve.specs.Bands.{bit}
+use Rattle.laws.specs.Tests.{bit}
 use Rattle.means.proofs.Marks.{first-marked, second-marked, third-marked}
 use Rattle.means.proofs.sets.marked_of_three.Statement.{statement}
 use Rattle.means.proofs.sets.marked_of_three.Tie as tie

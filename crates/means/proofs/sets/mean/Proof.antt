@@ -4,7 +4,7 @@ use native.Mathlib.Omega.{arith}
 use Prim.Native.Nat.{ℕ}
 use lib.IntN.{pos, _-ℤ_}
 use Rattle.quantity.proofs.Rim.{back}
-use Rattle.rooms.proofs.Counts.{Band, band-asks, band-gives}
+use Rattle.quantity.proofs.Counts.{Band, band-asks, band-gives}
 use Rattle.means.proofs.Averages.{mean-is, mean-counts}
 use Rattle.means.proofs.sets.mean.Statement.{statement}
 use Rattle.means.proofs.sets.mean.Tie as tie

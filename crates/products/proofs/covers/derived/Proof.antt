@@ -3,7 +3,7 @@ use borrow.Author.Needs.{needs}
 use mathlib.Core.Path.{_∙_}
 use native.Mathlib.Omega.{arith}
 use Rattle.quantity.proofs.Rim.{back}
-use Rattle.rooms.proofs.Counts.{Band, band-asks, band-gives}
+use Rattle.quantity.proofs.Counts.{Band, band-asks, band-gives}
 use Rattle.products.proofs.Improvements.{floors, floor-most, derives}
 use Rattle.products.proofs.covers.derived.Statement.{statement}
 use Rattle.products.proofs.covers.derived.Tie as tie

@@ -3,9 +3,8 @@ use mathlib.Core.Path.{ap}
 use native.Mathlib.Omega.{arith}
 use Prim.Native.Nat.{_-_, _≤_}
 use lib.IntN.{_-ℤ_}
-use Rattle.quantity.specs.Quantities.{bandOf}
+use Rattle.quantity.specs.Quantities.{bandOf, tenths}
 use Rattle.curve.proofs.Searched.{band-in}
-use Rattle.rooms.specs.Background.{tenths}
 use Rattle.means.proofs.Filling.{Filled, filled-none, filled-more, filled-whole}
 use Rattle.products.specs.Covers.{floorAt}
 use Rattle.products.proofs.Improvements.{derived-all}

@@ -8,8 +8,8 @@ use native.Mathlib.Omega.{arith}
 use borrow.Author.Needs.{needs}
 use borrow.Author.Tests.{not-true, not-false}
 use Rattle.laws.proofs.Lists.{Agreed, agreed-none, agreed-set}
-use Rattle.curve.specs.Bands.{allTo}
-use Rattle.curve.proofs.Walks.{all-none, all-more, all-fails}
+use Rattle.laws.specs.Tests.{allTo}
+use Rattle.laws.proofs.Ranges.{all-none, all-more, all-fails}
 use Rattle.entry.specs.Entries.{entryOk, wordOf}
 use Rattle.register.specs.Registers.{entryAt, repeated}
 use Rattle.register.proofs.Places.{Met, met-none, met-apart, met-more, repeated-fails}

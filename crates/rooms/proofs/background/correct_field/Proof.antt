@@ -5,7 +5,8 @@ use mathlib.Core.Bool.{Bool}
 use borrow.Author.Tests.{not-true, not-false}
 use lib.IntN.{ℤ}
 use Rattle.intake.specs.declared.singles.Taken.the-variants.{Value}
-use Rattle.rooms.specs.Background.{tenths, fieldLevel, fieldMark, fieldOf}
+use Rattle.rooms.specs.Background.{fieldLevel, fieldMark, fieldOf}
+use Rattle.quantity.specs.Quantities.{tenths}
 use Rattle.rooms.proofs.Rules.{no-total, no-background, both-in}
 use Rattle.rooms.proofs.background.correct_field.Statement.{statement}
 use Rattle.rooms.proofs.background.correct_field.Tie as tie

@@ -4,7 +4,7 @@ use mathlib.Core.Path.{_∙_}
 use native.Mathlib.Omega.{arith}
 use Prim.Native.Nat.{_-_}
 use Rattle.quantity.proofs.Rim.{back}
-use Rattle.rooms.proofs.Counts.{Band, band-asks, band-gives}
+use Rattle.quantity.proofs.Counts.{Band, band-asks, band-gives}
 use Rattle.rooms.proofs.Rules.{c-small, field-limit, field-between, field-clear}
 use Rattle.rooms.proofs.background.in_field.Statement.{statement}
 use Rattle.rooms.proofs.background.in_field.Tie as tie

@@ -7,7 +7,7 @@ use mir.Syntax.{w32}
 use mir.Val.{toZ, ofZ}
 use Prim.Native.Nat.{_-_}
 use Rattle.quantity.proofs.Rim.{back}
-use Rattle.rooms.proofs.Counts.{Band, band-asks, band-gives}
+use Rattle.quantity.proofs.Counts.{Band, band-asks, band-gives}
 use Rattle.rooms.proofs.Rules.{c-small, laboratory-refused, laboratory-between, laboratory-clear}
 use Rattle.rooms.proofs.background.in_laboratory.Statement.{statement}
 use Rattle.rooms.proofs.background.in_laboratory.Tie as tie

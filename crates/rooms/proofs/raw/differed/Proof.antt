@@ -8,12 +8,12 @@ use lib.IntN.{ℤ, _+ℤ_, _-ℤ_}
 use mir.Syntax.{w32}
 use mir.Val.{toZ, ofZ}
 use Rattle.laws.specs.Parts.{P, N}
-use Rattle.curve.proofs.Counted.{Up}
+use Rattle.laws.proofs.Counted.{Up}
 use Rattle.quantity.proofs.Rim.{back}
 use Rattle.energy.specs.Corrections.{k}
 use Rattle.rooms.specs.Background.{fieldMark}
 use Rattle.rooms.specs.Raw.{difference}
-use Rattle.rooms.proofs.Counts.{Band, asks, gives, band-asks, band-gives}
+use Rattle.quantity.proofs.Counts.{Band, asks, gives, band-asks, band-gives}
 use Rattle.rooms.proofs.Rules.{field-range}
 use Rattle.rooms.proofs.Differences.{step-small, differs, derived-in, derived-out}
 use Rattle.rooms.proofs.raw.differed.Statement.{statement}

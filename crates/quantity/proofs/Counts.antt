@@ -1,48 +1,17 @@
--- Band values as naturals counted from a floor: what the steps to naturals and back ask, what they give, and what a test of
--- the naturals says of the integers. Assumes nothing.
-use mathlib.Core.Path.{_≡_, refl}
-use mathlib.Core.Bool.{Bool, true, false}
+-- Band values as naturals counted from a floor: what the steps to naturals and back ask, and what they give. Assumes nothing.
+use mathlib.Core.Path.{_≡_}
+use mathlib.Core.Bool.{true}
 use Prim.Native.Nat.{ℕ, _+_, _≤_, _<_}
 use native.Mathlib.Omega.{arith}
 use lib.IntN.{ℤ}
-use lib.Signed.{leZ, ltZ}
 use mir.Syntax.{w32}
 use mir.Val.{toZ, ofZ}
 use mir.Facts.{toZ-ofZ}
 use Rattle.laws.specs.Parts.{P, N}
-use Rattle.laws.proofs.Ints.{fits-made, le-yes, le-no, lt-yes, lt-no}
+use Rattle.laws.proofs.Ints.{fits-made}
+use Rattle.laws.proofs.Counted.{Up}
 use Rattle.quantity.specs.Quantities.{inRange}
 use Rattle.quantity.proofs.Rim.{range-read}
-use Rattle.curve.proofs.Counted.{Up}
-
--- ---- a test over ℤ, from the parts
-pub le-true : (x y : ℤ) → P x + N y ≤ P y + N x → leZ x y ≡ true
-le-true x y h = go (leZ x y) refl
-  where
-    go : (b : Bool) → leZ x y ≡ b → b ≡ true
-    go true e = refl
-    go false e = absurd (omega (arith, le-no x y e))
-
-pub le-false : (x y : ℤ) → P y + N x < P x + N y → leZ x y ≡ false
-le-false x y h = go (leZ x y) refl
-  where
-    go : (b : Bool) → leZ x y ≡ b → b ≡ false
-    go true e = absurd (omega (arith, le-yes x y e))
-    go false e = refl
-
-pub lt-true : (x y : ℤ) → P x + N y < P y + N x → ltZ x y ≡ true
-lt-true x y h = go (ltZ x y) refl
-  where
-    go : (b : Bool) → ltZ x y ≡ b → b ≡ true
-    go true e = refl
-    go false e = absurd (omega (arith, lt-no x y e))
-
-pub lt-false : (x y : ℤ) → P y + N x ≤ P x + N y → ltZ x y ≡ false
-lt-false x y h = go (ltZ x y) refl
-  where
-    go : (b : Bool) → ltZ x y ≡ b → b ≡ false
-    go true e = absurd (omega (arith, lt-yes x y e))
-    go false e = refl
 
 -- ---- numbers of 32 bits that are near 0, read back from their bits
 pub near : (z : ℤ) → P z ≤ 100000 → N z ≤ 100000 → toZ w32 (ofZ w32 z) ≡ z

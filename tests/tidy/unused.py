@@ -1,0 +1,176 @@
+#!/usr/bin/env python3
+"""Lists what stands in crates/ and is used by nothing, and fails where there is any.
+
+    python3 tests/tidy/unused.py [ROOT]
+
+Four lists, each line with its file and place:
+
+- a name that a logic file (.antt) defines and nothing cites: no other definition of its file, no import of another file, no
+  contract, and no page of docs/ (which is how a theorem counts as used: a page says what it is for);
+- a name that a logic file imports, or that a contract's `ghost use` brings in, and does not use;
+- a function of the code (.rt) that no function names, unless it is open to callers of `desk` or `desk_c`;
+- a crate that crates.txt lists for a crate whose files never name it.
+
+It reads words, not meanings: a name counts as cited where the same word stands in a place that could mean it.
+"""
+
+import re
+import sys
+from pathlib import Path
+
+WORD = r"(?:\[\]|[^\s(){}\[\],;.`\"⌜⌝@]+)"
+MARKS = r"^(?P<indent> *)(?P<marks>(?:(?:pub|abbrev|unfoldable) )*)"
+DECLARED = re.compile(rf"{MARKS}(?:(?:record|data|ruleset) (?P<type>{WORD})|(?P<name>{WORD}) :)(?: |$)")
+OPEN_CRATES = ("desk", "desk_c")
+
+
+def words(text):
+    return re.findall(WORD, text)
+
+
+def without_comments(text):
+    return re.sub(r"(^|\s)--(?:\s.*)?$", r"\1", text, flags=re.M)
+
+
+class Logic:
+    """One logic file: its imports, the names it defines with their own lines, and the words of all other lines."""
+
+    def __init__(self, path, root):
+        self.path = path.relative_to(root)
+        parts = self.path.parts
+        self.crate = parts[1]
+        self.module = path.stem
+        self.lines = without_comments(path.read_text()).split("\n")
+        self.imports = []  # (line number, module path, name, its name here)
+        self.wholes = []  # modules that are named whole
+        body = []
+        for number, line in enumerate(self.lines, 1):
+            use = re.match(r"^\s*(?:abbrev |unfoldable )?(?P<again>pub )?use (?P<path>[^\s{]+?)(?:\.\{(?P<names>.*)\})?(?: as (?P<whole>\S+))?\s*$", line)
+            if not use:
+                body.append((number, line))
+            elif use["names"] is None:
+                self.wholes.append(use["path"])
+            else:
+                for name in use["names"].split(","):
+                    name, _, here = name.strip().partition(" as ")
+                    self.imports.append((number, use["path"], name, here or name, bool(use["again"])))
+        self.body = body
+        self.definitions = list(self.defined())
+
+    def defined(self):
+        """Each name once: its place, whether it is a field, whether it is open, and the numbers of its own lines."""
+        found, record, within = {}, None, None
+        for index, (number, line) in enumerate(self.body):
+            match = DECLARED.match(line)
+            if line.strip() and record is not None and len(line) - len(line.lstrip()) <= record:
+                record = None
+            name = match and (match["type"] or match["name"])
+            if not match or name in found:
+                continue
+            own, indent = {number}, len(match["indent"])
+            if record is not None and within == "data":
+                continue  # a constructor is part of its type
+            is_field = record is not None
+            if match["type"]:
+                record, within = indent, line.split(match["type"])[0].split()[-1]
+            for later, text in self.body[index + 1:]:
+                depth = len(text) - len(text.lstrip())
+                if text.strip() and (depth < indent or depth == indent and not re.match(rf"\s*(?:unfolding |{re.escape(name)}(?:\s|$))", text)):
+                    break
+                own.add(later)
+            found[name] = (name, number, is_field, "pub" in match["marks"], own)
+        return found.values()
+
+    def cites_inside(self, name, own):
+        return any(name in words(line) for number, line in self.body if number not in own)
+
+
+def names_uncited(files, code, pages):
+    """Definitions that nothing cites; a field of a record is cited by `.field` or `field =` anywhere."""
+    imported, fields = {}, set()
+    for file in files:
+        for _, path, name, _, _ in file.imports:
+            imported.setdefault(name, set()).add(path.split(".")[-1])
+        for _, line in file.body:
+            for module, name in re.findall(rf"({WORD})\.({WORD})", line):
+                imported.setdefault(name, set()).add(module)
+            fields.update(name for pair in re.findall(rf"\.({WORD})|({WORD}) =", line) for name in pair)
+    for text in code.values():
+        for path, names in re.findall(r"^ghost use ([^{]+)\.\{(.*)\};", text, flags=re.M):
+            for name in names.split(","):
+                imported.setdefault(name.strip().split(" ")[0], set()).add(path.split(".")[-1])
+        for contract in re.findall("⌜(.*?)⌝", text, flags=re.S):
+            fields.update(re.findall(rf"\.({WORD})", contract))
+    for file in files:
+        for name, number, is_field, is_open, own in file.definitions:
+            proof = file.module == "Proof" and name.endswith("-spec")
+            outside = is_open and file.module in imported.get(name, ())
+            if proof or outside or name in pages or (is_field and name in fields):
+                continue
+            if not file.cites_inside(name, own):
+                yield f"{file.path}:{number}: nothing cites {name}"
+
+
+def imports_unused(files, code):
+    for file in files:
+        used = set(word for _, line in file.body for word in words(line))
+        text = "\n".join(line for _, line in file.body)
+        for number, _, name, here, again in file.imports:
+            parts = [part for part in here.split("_") if part]
+            if again or here in used or here.startswith("_") and all(part in text for part in parts):
+                continue
+            yield f"{file.path}:{number}: {here} is imported and not used"
+    for path, text in code.items():
+        rest = re.sub(r"^ghost use .*$", "", text, flags=re.M)
+        for number, line in enumerate(text.split("\n"), 1):
+            use = re.match(r"ghost use [^{]+\{(.*)\};", line)
+            for name in use[1].split(",") if use else ():
+                name = name.strip().partition(" as ")[2] or name.strip()
+                parts = [part for part in name.split("_") if part]
+                if not all(part in rest for part in parts):
+                    yield f"{path}:{number}: {name} is imported and not used"
+
+
+def functions_uncalled(code):
+    bare = {path: re.sub(r"//.*|ghost use .*|pub use .*|⌜.*⌝", "", text) for path, text in code.items()}
+    for path, text in code.items():
+        for number, line in enumerate(text.split("\n"), 1):
+            match = re.match(r"\s*(?:pub )?(?:extern \"C\" )?fn ([a-z_0-9]+)", line)
+            if not match or match[1] == "main" or (path.parts[1] in OPEN_CRATES and "pub" in line):
+                continue
+            if not any(re.search(rf"(?<!fn )\b{match[1]}\b", text) for text in bare.values()):
+                yield f"{path}:{number}: nothing calls {match[1]}"
+
+
+def crates_unused(root, files, code):
+    for number, line in enumerate((root / "crates.txt").read_text().split("\n"), 1):
+        if line.startswith("#") or ":" not in line:
+            continue
+        name, _, needs = line.partition(":")
+        text = "".join(code[path] for path in code if path.parts[1] == name)
+        text += "".join("\n".join(file.lines) for file in files if file.crate == name)
+        for need in needs.split():
+            if not re.search(rf"\b{need}::|Rattle.{need}[.·]|\buse {need}\b|\b{need}·|\.{need}·", text):
+                yield f"crates.txt:{number}: {name} does not use {need}"
+
+
+def unused(root):
+    files = [Logic(path, root) for path in sorted(root.glob("crates/*/**/*.antt")) if "target" not in path.parts]
+    code = {path.relative_to(root): path.read_text() for path in sorted(root.glob("crates/*/src/**/*.rt"))}
+    spans = re.findall(r"`([^`\n]+)`", "\n".join(page.read_text() for page in sorted(root.glob("docs/*.md"))))
+    pages = set(words("\n".join(spans)))
+    yield from names_uncited(files, code, pages)
+    yield from imports_unused(files, code)
+    yield from functions_uncalled(code)
+    yield from crates_unused(root, files, code)
+
+
+def main():
+    root = Path(sys.argv[1] if len(sys.argv) > 1 else Path(__file__).parents[2]).resolve()
+    found = list(unused(root))
+    print("\n".join(found + [f"unused: {len(found)} found"]))
+    sys.exit(1 if found else 0)
+
+
+if __name__ == "__main__":
+    main()
