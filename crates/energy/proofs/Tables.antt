@@ -1,6 +1,7 @@
--- The tables of the code once more, as lists: their rules are proved of these, and the code's tables are these by computation.
--- Each entry is tested from both sides: it passes its rule and the number beside it fails, and a rule that grows or falls all
--- along has one such number only. So the proof fails if any one entry changes, in the code alone or in the code and here.
+-- The tables of the code once more, as lists, written by tests/reference/tables.py: their rules are proved of these, and the
+-- code's tables are these by computation. Each entry is tested from both sides: it passes its rule and the number beside it
+-- fails, and a rule that grows or falls all along has one such number only. So the proof fails if any one entry changes, in the
+-- code alone or in the code and here.
 use mathlib.Core.List.{List, [], _∷_}
 use Prim.Native.Nat.{ℕ}
 
@@ -99,7 +100,7 @@ energies =
     1 ∷ 1 ∷ 1 ∷ 1 ∷ 1 ∷ 1 ∷ 1 ∷ 1 ∷ 1 ∷ 1 ∷
     1 ∷ []
 
--- H(1) to H(120)
+-- H(1) to H(120): the least sums that count one tenth more
 unfoldable pub levels : List ℕ
 levels =
     1011579455 ∷ 1035142167 ∷ 1059253726 ∷ 1083926915 ∷ 1109174816 ∷ 1135010816 ∷ 1161448614 ∷ 1188502228 ∷ 1216186001 ∷ 1244514612 ∷
@@ -115,7 +116,7 @@ levels =
     10115794543 ∷ 10351421667 ∷ 10592537252 ∷ 10839269141 ∷ 11091748153 ∷ 11350108157 ∷ 11614486139 ∷ 11885022275 ∷ 12161860007 ∷ 12445146118 ∷
     12735030811 ∷ 13031667785 ∷ 13335214322 ∷ 13645831366 ∷ 13963683611 ∷ 14288939586 ∷ 14621771745 ∷ 14962356561 ∷ 15310874617 ∷ 15667510702 ∷ []
 
--- G(48) to G(1)
+-- G(48) to G(1): the greatest sums that still count a tenth
 unfoldable pub means : List ℕ
 means =
     1004896317 ∷ 1028303359 ∷ 1052255621 ∷ 1076765803 ∷ 1101846901 ∷ 1127512212 ∷ 1153775346 ∷ 1180650226 ∷ 1208151102 ∷ 1236292557 ∷
@@ -137,7 +138,7 @@ backgrounds =
     2 ∷ 2 ∷ 2 ∷ 2 ∷ 2 ∷ 2 ∷ 2 ∷ 2 ∷ 2 ∷ 2 ∷
     2 ∷ 2 ∷ 2 ∷ 2 ∷ 2 ∷ 2 ∷ 2 ∷ 1 ∷ 1 ∷ 1 ∷ []
 
--- the least times for k = -69 to 160
+-- the least times, in hundredths of a second, that add one tenth more, from k = -69 to k = 160
 unfoldable pub times : List ℕ
 times =
     11 ∷ 11 ∷ 11 ∷ 11 ∷ 12 ∷ 12 ∷ 12 ∷ 12 ∷ 13 ∷ 13 ∷
@@ -164,7 +165,7 @@ times =
     1271 ∷ 1301 ∷ 1331 ∷ 1362 ∷ 1394 ∷ 1426 ∷ 1459 ∷ 1493 ∷ 1528 ∷ 1564 ∷
     1600 ∷ 1637 ∷ 1675 ∷ 1714 ∷ 1754 ∷ 1795 ∷ 1837 ∷ 1880 ∷ 1923 ∷ 1968 ∷ []
 
--- u at the start of each stretch of 2 ^ 24 from 10 ^ 9 on
+-- u at the start of each stretch of 2 ^ 24 sums from 10 ^ 9 on
 unfoldable pub starts : List ℕ
 starts =
     0 ∷ 1 ∷ 1 ∷ 2 ∷ 3 ∷ 3 ∷ 4 ∷ 5 ∷ 5 ∷ 6 ∷ 7 ∷ 7 ∷ 8 ∷ 9 ∷ 9 ∷ 10 ∷ 10 ∷ 11 ∷ 11 ∷ 12 ∷

@@ -9,11 +9,11 @@ use Rattle.energy.proofs.Threes.{sum-bounds, mean-sum, v-most}
 use Rattle.energy.proofs.means.mean_of_three.Statement.{statement}
 use Rattle.energy.proofs.means.mean_of_three.Tie as tie
 
-least-requires : tie.Need-least-requires
-least-requires c κs = search needs
+lesser-requires : tie.Need-lesser-requires
+lesser-requires c κs = search needs
 
-least-requires-2 : tie.Need-least-requires-2
-least-requires-2 c κs = search needs
+lesser-requires-2 : tie.Need-lesser-requires-2
+lesser-requires-2 c κs = search needs
 
 sub-energy : tie.Need-sub-energy
 sub-energy c = search needs
@@ -55,8 +55,8 @@ added : (c : tie.After-energy3)
 added c =
     let l = c .before .before .before in
     let a = l .before .before .args in
-    mean-sum (a .x) (a .y) (a .z) (l .least2 .result) (c .before .before .energy .result) (c .before .energy2 .result) (c .energy3 .result)
-    (l .least2 .ensures ∙ ap (min (a .x)) (l .before .least .ensures)) (c .before .before .energy .ensures) (c .before .energy2 .ensures) (c .energy3 .ensures)
+    mean-sum (a .x) (a .y) (a .z) (l .lesser2 .result) (c .before .before .energy .result) (c .before .energy2 .result) (c .energy3 .result)
+    (l .lesser2 .ensures ∙ ap (min (a .x)) (l .before .lesser .ensures)) (c .before .before .energy .ensures) (c .before .energy2 .ensures) (c .energy3 .ensures)
 
 step-of-sum-requires : tie.Need-step-of-sum-requires
 step-of-sum-requires c κs =
@@ -75,14 +75,14 @@ unfolding mean₃
 returns c =
     let l = c .before .before .before .before in
     let a = l .before .before .args in
-    ap₂ _+_ (l .least2 .ensures ∙ ap (min (a .x)) (l .before .least .ensures)) (c .step-of-sum .ensures ∙ ap v (added (c .before)))
+    ap₂ _+_ (l .lesser2 .ensures ∙ ap (min (a .x)) (l .before .lesser .ensures)) (c .step-of-sum .ensures ∙ ap v (added (c .before)))
 
 pub mean-of-three-spec : {M : Type 1} → statement M
 mean-of-three-spec =
     tie.close
     (tie.spec
-    least-requires
-    least-requires-2
+    lesser-requires
+    lesser-requires-2
     sub-energy
     energy-requires
     cast-s

@@ -1,8 +1,8 @@
--- `energy::starts::level_starts` meets its contract: the rule of the table of the starts. Assumes nothing.
+-- `energy::steps::level_starts` meets its contract: the rule of the table of the starts. Assumes nothing.
 use Rattle.energy.proofs.Tables.{starts}
 use Rattle.energy.proofs.Thresholds.{starts-are}
-use Rattle.energy.proofs.starts.level_starts.Statement.{statement}
-use Rattle.energy.proofs.starts.level_starts.Tie as tie
+use Rattle.energy.proofs.steps.level_starts.Statement.{statement}
+use Rattle.energy.proofs.steps.level_starts.Tie as tie
 
 returns : tie.Need-returns
 unfolding starts

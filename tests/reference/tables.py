@@ -1,0 +1,93 @@
+"""Writes or checks the long tables of the crate `energy`: in the code, and once more in its logic.
+
+    python3 tests/reference/tables.py            writes them
+    python3 tests/reference/tables.py --check    compares them
+
+Every entry is worked out here from its power rule (imbrolt/energies.py).
+"""
+
+import argparse
+import os
+import sys
+from pathlib import Path
+
+sys.dont_write_bytecode = True
+
+from generate import check, write
+from imbrolt.energies import F, G, H, c, k, u
+from imbrolt.search import least
+
+ENERGY = Path(__file__).resolve().parents[2] / "crates" / "energy"
+
+# No stretch of so many sums holds two thresholds H(j); the first starts at the energy of one band.
+STRETCH, ALONE, MOST = 2 ** 24, 10 ** 9, 16 * 10 ** 9
+
+
+def least_time(step):
+    """The least time, in hundredths of a second, that adds `step` tenths."""
+    return least(lambda time: k(time) >= step, 10, 2000)
+
+
+# The name in the logic and in the code, the type of an entry, how many stand on a line of the logic, the sentence, the entries.
+TABLES = (
+    ("energies", "ENERGIES", "u32", 10, "F(0) to F(900)", [F(d) for d in range(901)]),
+    ("levels", "LEVELS", "u64", 10, "H(1) to H(120): the least sums that count one tenth more",
+     [H(j) for j in range(1, 121)]),
+    ("means", "MEANS", "u64", 10, "G(48) to G(1): the greatest sums that still count a tenth",
+     [G(j) for j in range(48, 0, -1)]),
+    ("backgrounds", "BACKGROUND", "u8", 10, "c(60) to c(149)", [c(d) for d in range(60, 150)]),
+    ("times", "TIMES", "u64", 10,
+     "the least times, in hundredths of a second, that add one tenth more, from k = -69 to k = 160",
+     [least_time(step) for step in range(-69, 161)]),
+    ("starts", "STARTS", "u8", 20, "u at the start of each stretch of 2 ^ 24 sums from 10 ^ 9 on",
+     [u(start) for start in range(ALONE, MOST + 1, STRETCH)]),
+)
+
+CODE_HEAD = """\
+// The long tables. They are worked out and written by tests/reference/tables.py; proved of each entry: its rule.
+"""
+
+LOGIC_HEAD = """\
+-- The tables of the code once more, as lists, written by tests/reference/tables.py: their rules are proved of these, and the
+-- code's tables are these by computation. Each entry is tested from both sides: it passes its rule and the number beside it
+-- fails, and a rule that grows or falls all along has one such number only. So the proof fails if any one entry changes, in the
+-- code alone or in the code and here.
+use mathlib.Core.List.{List, [], _∷_}
+use Prim.Native.Nat.{ℕ}
+"""
+
+
+def sentence(text):
+    """A comment of the code: a sentence."""
+    return text[0].upper() + text[1:] + "."
+
+
+def code():
+    """The constants, one entry to a line, as the formatter lays them out."""
+    parts = [CODE_HEAD]
+    for _, name, kind, _, text, entries in TABLES:
+        lines = "".join(f"    {entry},\n" for entry in entries)
+        parts.append(f"\n// {sentence(text)}\npub const {name}: [{kind}; {len(entries)}] = [\n{lines}];\n")
+    return "".join(parts).encode()
+
+
+def logic():
+    """The lists."""
+    parts = [LOGIC_HEAD]
+    for name, _, _, width, text, entries in TABLES:
+        rows = [entries[at:at + width] for at in range(0, len(entries), width)]
+        body = " ∷\n    ".join(" ∷ ".join(map(str, row)) for row in rows)
+        parts.append(f"\n-- {text}\nunfoldable pub {name} : List ℕ\n{name} =\n    {body} ∷ []\n")
+    return "".join(parts).encode()
+
+
+def main():
+    parser = argparse.ArgumentParser(description=__doc__.splitlines()[0])
+    parser.add_argument("--check", action="store_true", help="compare, write nothing")
+    handle = check if parser.parse_args().check else write
+    files = (("src/constants.rt", code()), ("proofs/Tables.antt", logic()))
+    return 0 if all([handle(Path(os.path.relpath(ENERGY / path)), data) for path, data in files]) else 1
+
+
+if __name__ == "__main__":
+    sys.exit(main())
