@@ -3,6 +3,7 @@ use curve::levels::all_in_range;
 use energy::mean_of_three;
 use energy::scaled_powers;
 use measurement::Intake;
+use measurement::refused_list;
 use measurement::take_all;
 use quantity::BandSet;
 use quantity::Outcome;
@@ -117,29 +118,15 @@ fn widened(values: [Tenths; 16]) -> [Tenths; 48]
     out
 }
 
-// A refusal, with nothing else told.
-fn refused(refusal: Refusal) -> Intake
-    ensures { λ r. ⌜ r ≡ refusedList refusal ⌝ }
-{
-    Intake {
-        outcome: Outcome::Refused(refusal),
-        set: BandSet {
-            values: [Tenths(0); 16],
-            marks: 0,
-            len: 0,
-        },
-    }
-}
-
 // Five octaves from a set of sixteen thirds: 1 where it has another length, then 4 where a band is out of range.
 pub fn octaves(set: BandSet) -> Intake
     ensures { λ r. ⌜ r ≡ octavesOf set ⌝ }
 {
     if set.len != A3Kind::BANDS {
-        return refused(Refusal::BandCount);
+        return refused_list(Refusal::BandCount);
     }
     if !all_in_range(set, A3Kind::BANDS) {
-        return refused(Refusal::BandRange);
+        return refused_list(Refusal::BandRange);
     }
     let thirds = set.values;
     let values = widened(thirds);
@@ -157,12 +144,12 @@ pub fn specimens(readings: [Reading; 48], len: usize) -> Intake
     ensures { λ r. ⌜ r ≡ specimensOf readings len ⌝ }
 {
     if len != READINGS {
-        return refused(Refusal::SpecimenCount);
+        return refused_list(Refusal::SpecimenCount);
     }
     let all = take_all(readings, READINGS);
     let outcome = all.outcome;
     match outcome {
-        Outcome::Refused(refusal) => refused(refusal),
+        Outcome::Refused(refusal) => refused_list(refusal),
         Outcome::Accepted => {
             let values = all.values;
             let powers = scaled_powers();

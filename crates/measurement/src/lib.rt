@@ -6,5 +6,6 @@ mod lists;
 
 pub use lists::Intake;
 pub use lists::Readings;
+pub use lists::refused_list;
 pub use lists::take_all;
 pub use lists::take_list;

@@ -41,7 +41,8 @@ fn refused_all(refusal: Refusal) -> Readings
     }
 }
 
-fn refused_list(refusal: Refusal) -> Intake
+// A refusal, with nothing else told.
+pub fn refused_list(refusal: Refusal) -> Intake
     ensures { λ r. ⌜ r ≡ refusedList refusal ⌝ }
 {
     Intake {

@@ -9,21 +9,21 @@ use Rattle.means.proofs.Thirds.{octaves-count, octaves-range, octaves-m
 use Rattle.means.proofs.sets.octaves.Statement.{statement}
 use Rattle.means.proofs.sets.octaves.Tie as tie
 
-refused-requires : tie.Need-refused-requires
-refused-requires c κs = search needs
+refused-list-requires : tie.Need-refused-list-requires
+refused-list-requires c κs = search needs
 
 returns : tie.Need-returns
-returns c = c .refused .ensures ∙ octaves-count (c .before .before .before .args .set) (c .before .if1 .taken)
+returns c = c .refused-list .ensures ∙ octaves-count (c .before .before .before .args .set) (c .before .if1 .taken)
 
 all-in-range-requires : tie.Need-all-in-range-requires
 all-in-range-requires c κs = search needs
 
-refused-requires-2 : tie.Need-refused-requires-2
-refused-requires-2 c κs = search needs
+refused-list-requires-2 : tie.Need-refused-list-requires-2
+refused-list-requires-2 c κs = search needs
 
 returns-2 : tie.Need-returns-2
 returns-2 c =
-    c .refused2 .ensures
+    c .refused-list2 .ensures
     ∙ octaves-range (c .before .before .before .before .before .args .set) (c .before .before .before .if1 .left) (sym (c .before .before .all-in-range .ensures) ∙ not-true (c .before .before .all-in-range .result) (c .before .if2 .taken))
 
 within : (c : tie.Else2) → accepted (c .before .before .before .before .args .set) 16 ≡ true
@@ -56,10 +56,10 @@ pub octaves-spec : {M : Type 1} → statement M
 octaves-spec =
     tie.close
     (tie.spec
-    refused-requires
+    refused-list-requires
     returns
     all-in-range-requires
-    refused-requires-2
+    refused-list-requires-2
     returns-2
     widened-requires
     scaled-powers-requires

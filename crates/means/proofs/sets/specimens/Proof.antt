@@ -6,13 +6,13 @@ use Rattle.means.proofs.Thirds.{specimens-count, specimens-refused, spe
 use Rattle.means.proofs.sets.specimens.Statement.{statement}
 use Rattle.means.proofs.sets.specimens.Tie as tie
 
-refused-requires : tie.Need-refused-requires
-refused-requires c κs = search needs
+refused-list-requires : tie.Need-refused-list-requires
+refused-list-requires c κs = search needs
 
 returns : tie.Need-returns
 returns c =
     let a = c .before .before .args in
-    c .refused .ensures ∙ specimens-count (a .readings) (a .len) (c .before .if1 .taken)
+    c .refused-list .ensures ∙ specimens-count (a .readings) (a .len) (c .before .if1 .taken)
 
 take-all-requires : tie.Need-take-all-requires
 take-all-requires c κs = search needs
@@ -20,8 +20,8 @@ take-all-requires c κs = search needs
 enum-known-outcome : tie.Need-enum-known-outcome
 enum-known-outcome c = search needs
 
-refused-requires-2 : tie.Need-refused-requires-2
-refused-requires-2 c κs = search needs
+refused-list-requires-2 : tie.Need-refused-list-requires-2
+refused-list-requires-2 c κs = search needs
 
 enum-told : tie.Need-enum-told
 enum-told c = search needs
@@ -41,7 +41,7 @@ returns-2 c =
     let r = c .before .before .before .before in
     let a = r .before .before .args in
     let w = c .before .before .outcome .given in
-    c .refused2 .ensures ∙ specimens-refused (a .readings) (a .len) (r .take-all .result) (r .before .if1 .left) (r .take-all .ensures) (w .0 .0) (w .1)
+    c .refused-list2 .ensures ∙ specimens-refused (a .readings) (a .len) (r .take-all .result) (r .before .if1 .left) (r .take-all .ensures) (w .0 .0) (w .1)
 
 returns-3 : tie.Need-returns-3
 returns-3 c =
@@ -54,11 +54,11 @@ pub specimens-spec : {M : Type 1} → statement M
 specimens-spec =
     tie.close
     (tie.spec
-    refused-requires
+    refused-list-requires
     returns
     take-all-requires
     enum-known-outcome
-    refused-requires-2
+    refused-list-requires-2
     enum-told
     scaled-powers-requires
     means-requires
