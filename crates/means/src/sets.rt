@@ -20,7 +20,7 @@ ghost use Prim.Native.Nat.{ℕ, _+_, _*_, _≤_, _<_};
 ghost use lib.ListN.{getD};
 ghost use Rattle.energy.specs.Energies.{Scaled};
 ghost use Rattle.quantity.specs.Quantities.{inRange};
-ghost use Rattle.measurement.specs.Lists.{weightOf, refusedList, nought};
+ghost use Rattle.measurement.specs.Lists.{weightOf, nought};
 ghost use Rattle.laws.specs.Tests.{bit};
 ghost use Rattle.means.specs.Means.{meanOf₃};
 ghost use Rattle.means.specs.Sets.{marked₃, placed, meansOf, octavesOf, specimensOf};

@@ -13,25 +13,25 @@ pub fn byte(s: &[u8], at: usize) -> u8
 pub fn is_key(b: u8) -> bool
     ensures { λ r. ⌜ r ≡ keyByte b ⌝ }
 {
-    if b == 45 {
+    if b == b'-' {
         return true;
     }
-    if b < 48 {
+    if b < b'0' {
         return false;
     }
-    if b <= 57 {
+    if b <= b'9' {
         return true;
     }
-    if b < 65 {
+    if b < b'A' {
         return false;
     }
-    if b <= 90 {
+    if b <= b'Z' {
         return true;
     }
-    if b < 97 {
+    if b < b'a' {
         return false;
     }
-    b <= 122
+    b <= b'z'
 }
 
 // Whether a text has the shape of a key: 1 to 32 such bytes.

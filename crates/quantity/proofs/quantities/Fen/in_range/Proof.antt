@@ -1,4 +1,4 @@
--- `quantity::Fen::in_range` meets its contract: one test is the definition. Assumes nothing.
+-- `quantity::quantities::Fen::in_range` meets its contract: one test is the definition. Assumes nothing.
 use borrow.Author.Needs.{needs}
 use Rattle.quantity.specs.Quantities.{priced}
 use Rattle.quantity.proofs.quantities.Fen.in_range.Statement.{statement}

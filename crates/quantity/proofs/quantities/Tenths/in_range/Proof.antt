@@ -1,4 +1,4 @@
--- `quantity::Tenths::in_range` meets its contract: each test is an end of the range. Assumes nothing.
+-- `quantity::quantities::Tenths::in_range` meets its contract: each test is an end of the range. Assumes nothing.
 use Rattle.laws.proofs.Ints.{ints, apart}
 use Rattle.quantity.proofs.Rim.{back, range-yes, range-low, range-high}
 use Rattle.quantity.proofs.quantities.Tenths.in_range.Statement.{statement}

@@ -1,4 +1,4 @@
--- `quantity::Tenths::rounded` meets its contract: counted from far below, the quotient is one of naturals. Assumes nothing.
+-- `quantity::quantities::Tenths::rounded` meets its contract: counted from far below, the quotient is one of naturals. Assumes nothing.
 use mathlib.Core.Path.{_∙_}
 use borrow.Author.Needs.{needs}
 use Rattle.laws.proofs.Ints.{ints, apart}

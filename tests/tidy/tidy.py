@@ -1,15 +1,16 @@
 #!/usr/bin/env python3
-"""Lists what stands in crates/ and is used by nothing, and fails where there is any.
+"""Lists what stands in crates/ and is used by nothing, or says of itself what is not so, and fails where there is any.
 
-    python3 tests/tidy/unused.py [ROOT]
+    python3 tests/tidy/tidy.py [ROOT]
 
-Four lists, each line with its file and place:
+Five lists, each line with its file and place:
 
 - a name that a logic file (.antt) defines and nothing cites: no other definition of its file, no import of another file, no
   contract, and no page of docs/ (which is how a theorem counts as used: a page says what it is for);
 - a name that a logic file imports, or that a contract's `ghost use` brings in, and does not use;
 - a function of the code (.rt) that no function names, unless it is open to callers of `desk` or `desk_c`;
-- a crate that crates.txt lists for a crate whose files never name it.
+- a crate that crates.txt lists for a crate whose files never name it;
+- a proof of a function whose first line does not name that function, and a comment that gives a position in the code.
 
 It reads words, not meanings: a name counts as cited where the same word stands in a place that could mean it.
 """
@@ -21,6 +22,7 @@ from pathlib import Path
 WORD = r"(?:\[\]|[^\s(){}\[\],;.`\"⌜⌝@]+)"
 MARKS = r"^(?P<indent> *)(?P<marks>(?:(?:pub|abbrev|unfoldable) )*)"
 DECLARED = re.compile(rf"{MARKS}(?:(?:record|data|ruleset) (?P<type>{WORD})|(?P<name>{WORD}) :)(?: |$)")
+USE = re.compile(r"^\s*(?:abbrev |unfoldable )?(?P<again>pub )?use (?P<path>[^\s{]+?)(?:\.\{(?P<names>.*)\})?(?: as \S+)?\s*$")
 OPEN_CRATES = ("desk", "desk_c")
 
 
@@ -40,21 +42,18 @@ class Logic:
         parts = self.path.parts
         self.crate = parts[1]
         self.module = path.stem
-        self.lines = without_comments(path.read_text()).split("\n")
-        self.imports = []  # (line number, module path, name, its name here)
-        self.wholes = []  # modules that are named whole
-        body = []
+        text = path.read_text()
+        self.text = text
+        self.lines = without_comments(text).split("\n")
+        self.imports = []  # line number, module path, name, its name here, whether it is handed on
+        self.body = []
         for number, line in enumerate(self.lines, 1):
-            use = re.match(r"^\s*(?:abbrev |unfoldable )?(?P<again>pub )?use (?P<path>[^\s{]+?)(?:\.\{(?P<names>.*)\})?(?: as (?P<whole>\S+))?\s*$", line)
+            use = USE.match(line)
             if not use:
-                body.append((number, line))
-            elif use["names"] is None:
-                self.wholes.append(use["path"])
-            else:
-                for name in use["names"].split(","):
-                    name, _, here = name.strip().partition(" as ")
-                    self.imports.append((number, use["path"], name, here or name, bool(use["again"])))
-        self.body = body
+                self.body.append((number, line))
+            for name in use["names"].split(",") if use and use["names"] else ():
+                name, _, here = name.strip().partition(" as ")
+                self.imports.append((number, use["path"], name, here or name, bool(use["again"])))
         self.definitions = list(self.defined())
 
     def defined(self):
@@ -154,7 +153,18 @@ def crates_unused(root, files, code):
                 yield f"crates.txt:{number}: {name} does not use {need}"
 
 
-def unused(root):
+def headers_wrong(files):
+    for file in files:
+        if file.module == "Proof":
+            name = "::".join([file.crate, *(part.lstrip("+") for part in file.path.parts[3:-1])])
+            if not file.text.startswith(f"-- `{name}`"):
+                yield f"{file.path}:1: the first line does not name {name}"
+        for number, line in enumerate(file.text.split("\n"), 1):
+            if re.match(r"\s*-- \S*\.rt:\d+", line):
+                yield f"{file.path}:{number}: a position in the code"
+
+
+def untidy(root):
     files = [Logic(path, root) for path in sorted(root.glob("crates/*/**/*.antt")) if "target" not in path.parts]
     code = {path.relative_to(root): path.read_text() for path in sorted(root.glob("crates/*/src/**/*.rt"))}
     spans = re.findall(r"`([^`\n]+)`", "\n".join(page.read_text() for page in sorted(root.glob("docs/*.md"))))
@@ -163,12 +173,13 @@ def unused(root):
     yield from imports_unused(files, code)
     yield from functions_uncalled(code)
     yield from crates_unused(root, files, code)
+    yield from headers_wrong(files)
 
 
 def main():
     root = Path(sys.argv[1] if len(sys.argv) > 1 else Path(__file__).parents[2]).resolve()
-    found = list(unused(root))
-    print("\n".join(found + [f"unused: {len(found)} found"]))
+    found = list(untidy(root))
+    print("\n".join(found + [f"tidy: {len(found)} found"]))
     sys.exit(1 if found else 0)
 
 
