@@ -10,9 +10,11 @@ use libc::STDOUT_FILENO;
 use quantity::signed::above;
 use quantity::signed::below;
 
-// What the lent array is full of. No answer has it, so that all that is printed was written by the call, past the answer and on
-// a refusal too.
+// What the lent arrays are full of before a call. No answer has it: printed is all that the call wrote, past its answer or on a
+// refusal too.
 const UNWRITTEN: i32 = -2147483648;
+
+const NO_SET: u16 = 65535;
 
 // The intake of a time, which is no C function.
 fn take_time(x: f32, out: &mut [i32; 17]) -> u32 {
@@ -44,7 +46,8 @@ fn lift(case: Case, tenths: &[i32], list: &mut [u16], out: &mut [i32]) -> u32 {
     )
 }
 
-// Makes the call of a case, on the first `length` places of the arrays.
+// Makes the call of a case, on the first `length` places of the arrays. What is no case is answered by 0 and no number, as no
+// call is.
 fn call(
     case: Case,
     length: usize,
@@ -84,11 +87,14 @@ fn call(
     }
 }
 
-fn wide(set: u16) -> i32 {
+fn number_of(set: u16) -> i32 {
+    if set == NO_SET {
+        return UNWRITTEN;
+    }
     set as i32
 }
 
-// Number i of both lent arrays, one after the other. No set of bands is 0.
+// Number i of both lent arrays, one after the other.
 fn number_at(out: &[i32; 17], list: &[u16; 800], i: usize) -> i32 {
     if i < 17 {
         return out[i];
@@ -96,11 +102,7 @@ fn number_at(out: &[i32; 17], list: &[u16; 800], i: usize) -> i32 {
     if 816 < i {
         return UNWRITTEN;
     }
-    let set = wide(list[i - 17]);
-    if set == 0 {
-        return UNWRITTEN;
-    }
-    set
+    number_of(list[i - 17])
 }
 
 // How far a number lies from 0.
@@ -134,7 +136,7 @@ fn print_numbers(out: &[i32; 17], list: &[u16; 800]) {
     }
 }
 
-// A line with what the call returns and every number that it wrote.
+// A line with what the call of a case returns and every number that it wrote.
 pub fn answer(case: Case) {
     let layout = layout_of(natural(case, 0));
     let length = natural(case, layout.length) as usize;
@@ -142,7 +144,7 @@ pub fn answer(case: Case) {
     let mut marks = [0u8; 144];
     let mut floats = [0.0f32; 144];
     fill(case, layout.list, &mut tenths, &mut marks, &mut floats);
-    let mut list = [0u16; 800];
+    let mut list = [NO_SET; 800];
     let mut out = [UNWRITTEN; 17];
     let returned = call(case, length, &tenths, &marks, &floats, &mut list, &mut out);
     io::print_decimal(STDOUT_FILENO, returned as u64);
