@@ -77,9 +77,11 @@ def flat(bands):
 
 
 BINDING = {
-    1: lambda kind, length, marks, *values: binding.rate(kind, values_of(length, values), marks),
+    1: lambda kind, length, marks, *values: sheet_numbers(
+        binding.rate(kind, values_of(length, values), marks)),
     2: lambda mark, bits: binding.reading(binding.Reading(mark, float_of(bits))),
-    3: lambda kind, length, *pairs: binding.rate_readings(kind, readings_of(length, pairs)),
+    3: lambda kind, length, *pairs: sheet_numbers(
+        binding.rate_readings(kind, readings_of(length, pairs))),
     5: binding.field,
     6: lambda *levels: [binding.laboratory(*levels)],
     7: lambda *bits: binding.raw(*map(float_of, bits)),

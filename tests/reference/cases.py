@@ -1,4 +1,4 @@
-"""Answers case lines: whole numbers in, whole numbers out.
+"""Answers case lines: whole numbers in, the numbers of the C functions out.
 
     python3 tests/reference/cases.py < stdin > stdout
 
@@ -19,8 +19,9 @@ def readings_of(numbers):
 
 
 def sheet_numbers(sheet):
-    """A sheet's numbers, None for no second term."""
-    return [sheet.rating, sheet.first, sheet.second, sheet.shifts, sheet.limit]
+    """A sheet's numbers: 0 for no second term, and after it whether there is one."""
+    return [sheet.rating, sheet.first, sheet.second or 0, sheet.second is not None, sheet.shifts,
+            sheet.limit]
 
 
 def rate_tenths(kind, length, marks, *values):
@@ -103,8 +104,8 @@ def answer_of_case(numbers):
 
 
 def text_of_numbers(numbers):
-    """Whole numbers parted by one space, `-` for None, ended by a line feed."""
-    return " ".join("-" if number is None else str(int(number)) for number in numbers) + "\n"
+    """Whole numbers parted by one space, ended by a line feed."""
+    return " ".join(str(int(number)) for number in numbers) + "\n"
 
 
 def answers_of_cases(text):

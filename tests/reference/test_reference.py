@@ -1277,8 +1277,8 @@ def test_inputs_meet_every_tie():
 def test_case_lines():
     pencil = " ".join(map(str, pencil_set({7: -100})))
     for asked, answer in (
-            (f"1 0 16 0 {pencil}", "0 51 -3 -6 1 0"),
-            ("1 2 16 1 " + " ".join(map(str, rooms.REFERENCE_FLOOR)), "0 78 -10 - 13 1"),
+            (f"1 0 16 0 {pencil}", "0 51 -3 -6 1 1 0"),
+            ("1 2 16 1 " + " ".join(map(str, rooms.REFERENCE_FLOOR)), "0 78 -10 0 0 13 1"),
             (f"1 1 4 0 {pencil}", "1"), ("2 1 2147483648", "0 0 1"), ("2 2 0", "3"),
             ("4 1056964608", "0 50"), ("5 600 540", "0 587 1"), ("6 600 540", "0 587"),
             ("6 600 541", "5"), (f"12 0 16 0 52 696 {pencil}", "0 1 128"),

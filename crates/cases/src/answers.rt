@@ -1,304 +1,153 @@
 // The calls, by the number that a case begins with, and their answers as text.
+use crate::lists::fill;
+use crate::lists::layout_of;
 use crate::numbers::Case;
+use crate::numbers::float;
 use crate::numbers::natural;
 use crate::numbers::signed;
-use crate::sets::float_at;
-use crate::sets::kind_at;
-use crate::sets::reading_at;
-use crate::sets::readings_at;
-use crate::sets::set_at;
-use intake::Taken;
 use intake::Time;
 use libc::STDOUT_FILENO;
-use lift::Lifted;
-use measurement::Intake;
-use products::Cover;
-use products::Graded;
-use products::Side;
-use quantity::BandSet;
-use quantity::Decibels;
-use quantity::Outcome;
-use quantity::Refusal;
-use quantity::Tenths;
 use quantity::signed::above;
 use quantity::signed::below;
-use rating::A1Kind;
-use rating::A3Kind;
-use rating::Rated;
-use rating::Sheet;
-use rating::Term;
-use rooms::RawBand;
-ghost use Prim.Native.Nat.{_≤_};
-ghost use Rattle.laws.specs.Parts.{P};
 
-fn print(text: &[u8]) {
-    io::write_all(STDOUT_FILENO, text);
+// What the lent arrays are full of before a call. No answer has it: printed is all that the call wrote, past its answer or on a
+// refusal too.
+const UNWRITTEN: i32 = -2147483648;
+
+const NO_SET: u16 = 65535;
+
+// The intake of a time, which is no C function.
+fn take_time(x: f32, out: &mut [i32; 17]) -> u32 {
+    match intake::take_time(x) {
+        Time::Value(time) => {
+            let hundredths = time.0;
+            if hundredths < 100000 {
+                out[0] = hundredths as i32;
+            }
+            0
+        }
+        Time::Refused(refusal) => refusal.number(),
+    }
 }
 
-// How far a number lies below 0. The answers of the library are all above -100000.
-fn size_below(z: i32) -> u32
-    requires { ⌜ P z ≤ 0 ⌝ }
-{
+// The lift list, in the first places of a lent list.
+fn lift(case: Case, tenths: &[i32], list: &mut [u16], out: &mut [i32]) -> u32 {
+    let places = natural(case, 5) as usize;
+    if list.len() < places {
+        return 0;
+    }
+    desk_c::imbrolt_lift(
+        natural(case, 1),
+        tenths,
+        natural(case, 3),
+        signed(case, 4),
+        &mut list[0..places],
+        out,
+    )
+}
+
+// Makes the call of a case, on the first `length` places of the arrays. What is no case is answered by 0 and no number, as no
+// call is.
+fn call(
+    case: Case,
+    length: usize,
+    tenths: &[i32; 144],
+    marks: &[u8; 144],
+    floats: &[f32; 144],
+    list: &mut [u16; 800],
+    out: &mut [i32; 17],
+) -> u32 {
+    if 144 < length {
+        return 0;
+    }
+    let tenths = &tenths[..][0..length];
+    let marks = &marks[..][0..length];
+    let floats = &floats[..][0..length];
+    let number = natural(case, 0);
+    match number {
+        1 => desk_c::imbrolt_rate(natural(case, 1), tenths, natural(case, 3), out),
+        2 => desk_c::imbrolt_reading(natural(case, 1), float(case, 2), out),
+        3 => desk_c::imbrolt_rate_readings(natural(case, 1), marks, floats, out),
+        4 => take_time(float(case, 1), out),
+        5 => desk_c::imbrolt_field(signed(case, 1), signed(case, 2), out),
+        6 => desk_c::imbrolt_laboratory(signed(case, 1), signed(case, 2), out),
+        7 => desk_c::imbrolt_raw(
+            float(case, 1),
+            float(case, 2),
+            float(case, 3),
+            float(case, 4),
+            out,
+        ),
+        8 => desk_c::imbrolt_octaves(tenths, natural(case, 2), out),
+        9 => desk_c::imbrolt_specimens(marks, floats, out),
+        10 => desk_c::imbrolt_cover(tenths, natural(case, 2), out),
+        11 => desk_c::imbrolt_grade(natural(case, 1), marks, floats, out),
+        12 => lift(case, tenths, list, out),
+        _ => 0,
+    }
+}
+
+fn number_of(set: u16) -> i32 {
+    if set == NO_SET {
+        return UNWRITTEN;
+    }
+    set as i32
+}
+
+// Number i of both lent arrays, one after the other.
+fn number_at(out: &[i32; 17], list: &[u16; 800], i: usize) -> i32 {
+    if i < 17 {
+        return out[i];
+    }
+    if 816 < i {
+        return UNWRITTEN;
+    }
+    number_of(list[i - 17])
+}
+
+// How far a number lies from 0.
+fn size(z: i32) -> u32 {
     if z < -100000 {
         return 100000;
     }
-    below(z, 0)
-}
-
-// A blank and a signed number.
-fn print_signed(z: i32) {
-    print(b" ");
     if z < 0 {
-        print(b"-");
-        io::print_decimal(STDOUT_FILENO, size_below(z) as u64);
+        return below(z, 0);
+    }
+    above(z, 0)
+}
+
+// A blank and a number, where one was written: all answers are above -100000.
+fn print_number(z: i32) {
+    if z < -100000 {
         return;
     }
-    io::print_decimal(STDOUT_FILENO, above(z, 0) as u64);
-}
-
-fn print_decibels(d: Decibels) {
-    print_signed(d.0);
-}
-
-fn print_natural(n: u64) {
-    print(b" ");
-    io::print_decimal(STDOUT_FILENO, n);
-}
-
-fn print_flag(b: bool) {
-    if b {
-        print(b" 1");
-    } else {
-        print(b" 0");
+    io::write_all(STDOUT_FILENO, b" ");
+    if z < 0 {
+        io::write_all(STDOUT_FILENO, b"-");
     }
+    io::print_decimal(STDOUT_FILENO, size(z) as u64);
 }
 
-fn print_refusal(r: Refusal) {
-    io::print_decimal(STDOUT_FILENO, r.number() as u64);
-}
-
-fn print_sheet(s: Sheet) {
-    print(b"0");
-    print_decibels(s.rating);
-    print_decibels(s.first);
-    let second = s.second;
-    match second {
-        Term::Given(d) => print_decibels(d),
-        Term::Absent => print(b" -"),
-    }
-    print_natural(s.shifts as u64);
-    print_flag(s.limit);
-}
-
-fn print_rated(r: Rated) {
-    match r {
-        Rated::Rating(s) => print_sheet(s),
-        Rated::Refused(n) => print_refusal(n),
-    }
-}
-
-// 1: the rating of a set of tenths.
-fn rate_tenths(case: Case) {
-    print_rated(desk::rate(kind_at(case, 1), set_at(case, 2, 3, 4)));
-}
-
-fn print_taken(t: Taken) {
-    match t {
-        Taken::Value(value, limit) => {
-            print(b"0");
-            print_signed(value.0);
-            print_flag(limit);
-        }
-        Taken::Refused(n) => print_refusal(n),
-    }
-}
-
-// 2: one reading.
-fn take_reading(case: Case) {
-    print_taken(desk::take_reading(reading_at(case, 1)));
-}
-
-// 3: the rating of a list of readings.
-fn rate_readings(case: Case) {
-    let length = natural(case, 2) as usize;
-    print_rated(desk::rate_readings(kind_at(case, 1), readings_at(case, 3, 16), length));
-}
-
-// 4: a reverberation time.
-fn take_time(case: Case) {
-    let taken = intake::take_time(float_at(case, 1));
-    match taken {
-        Time::Value(t) => {
-            print(b"0");
-            print_natural(t.0 as u64);
-        }
-        Time::Refused(n) => print_refusal(n),
-    }
-}
-
-// 5: the field rule.
-fn correct_field(case: Case) {
-    print_taken(rooms::correct_field(Tenths(signed(case, 1)), Tenths(signed(case, 2))));
-}
-
-// 6: the laboratory rule, which marks no limit.
-fn correct_laboratory(case: Case) {
-    let taken = rooms::correct_laboratory(Tenths(signed(case, 1)), Tenths(signed(case, 2)));
-    match taken {
-        Taken::Value(value, _) => {
-            print(b"0");
-            print_signed(value.0);
-        }
-        Taken::Refused(n) => print_refusal(n),
-    }
-}
-
-// 7: a raw band.
-fn standardized(case: Case) {
-    print_taken(rooms::standardized(RawBand {
-        source: float_at(case, 1),
-        receiving: float_at(case, 2),
-        background: float_at(case, 3),
-        time: float_at(case, 4),
-    }));
-}
-
-// The first `count` values of a set, and its marks.
-fn print_set(set: BandSet, count: usize) {
-    print(b"0");
+fn print_numbers(out: &[i32; 17], list: &[u16; 800]) {
     let mut i = 0;
-    while i < count {
-        if i < 16 {
-            let value = set.values[i];
-            print_signed(value.0);
-        }
-        i += 1;
-    }
-    print_natural(set.marks as u64);
-}
-
-fn print_intake(t: Intake, count: usize) {
-    let outcome = t.outcome;
-    match outcome {
-        Outcome::Accepted => {
-            let set = t.set;
-            print_set(set, count);
-        }
-        Outcome::Refused(n) => print_refusal(n),
-    }
-}
-
-// 8: octaves.
-fn octaves(case: Case) {
-    print_intake(means::octaves(set_at(case, 1, 2, 3)), A1Kind::BANDS);
-}
-
-// 9: specimens.
-fn specimens(case: Case) {
-    let length = natural(case, 1) as usize;
-    print_intake(
-        means::specimens(readings_at(case, 2, 48), length),
-        A3Kind::BANDS,
-    );
-}
-
-// 10: a cover.
-fn cover_of(case: Case) {
-    let cover = products::cover_of(set_at(case, 1, 2, 3));
-    match cover {
-        Cover::Improvement(rating, term, limit) => {
-            print(b"0");
-            print_decibels(rating);
-            print_decibels(term);
-            print_flag(limit);
-        }
-        Cover::Refused(n) => print_refusal(n),
-    }
-}
-
-fn side_at(case: Case, i: usize) -> Side {
-    if natural(case, i) == 0 {
-        return Side::Outside;
-    }
-    Side::Inside
-}
-
-// 11: a grade.
-fn grade_of(case: Case) {
-    let length = natural(case, 2) as usize;
-    let graded = products::grade_of(readings_at(case, 3, 48), length, side_at(case, 1));
-    match graded {
-        Graded::Given(g) => {
-            print(b"0");
-            print_decibels(g.rating);
-            print_decibels(g.c);
-            print_decibels(g.ctr);
-            print_decibels(g.deciding);
-            print_natural(g.grade as u64);
-            print_flag(g.limit);
-        }
-        Graded::Refused(n) => print_refusal(n),
-    }
-}
-
-fn wide(x: u16) -> u64 {
-    x as u64
-}
-
-// The first `count` places of a list.
-fn print_places(list: &[u16], count: usize) {
-    let mut i = 0;
-    while i < count {
-        if i < list.len() {
-            print_natural(wide(list[i]));
-        }
+    while i < 817 {
+        print_number(number_at(out, list, i));
         i += 1;
     }
 }
 
-// 12: the lift list, in the first places of a lent list.
-fn lift_into(case: Case, list: &mut [u16]) {
-    let places = natural(case, 5) as usize;
-    if list.len() < places {
-        return;
-    }
-    let lifted = lift::lift(
-        kind_at(case, 1),
-        set_at(case, 2, 3, 6),
-        Decibels(signed(case, 4)),
-        &mut list[..places],
-    );
-    match lifted {
-        Lifted::Count(n) => {
-            print(b"0");
-            print_natural(n as u64);
-            print_places(list, n);
-        }
-        Lifted::Refused(n) => print_refusal(n),
-    }
-}
-
-fn lift_list(case: Case) {
-    let mut list = [43690u16; 800];
-    lift_into(case, &mut list);
-}
-
+// A line with what the call of a case returns and every number that it wrote.
 pub fn answer(case: Case) {
-    let call = natural(case, 0);
-    match call {
-        1 => rate_tenths(case),
-        2 => take_reading(case),
-        3 => rate_readings(case),
-        4 => take_time(case),
-        5 => correct_field(case),
-        6 => correct_laboratory(case),
-        7 => standardized(case),
-        8 => octaves(case),
-        9 => specimens(case),
-        10 => cover_of(case),
-        11 => grade_of(case),
-        12 => lift_list(case),
-        _ => print(b"?"),
-    }
-    print(b"\n");
+    let layout = layout_of(natural(case, 0));
+    let length = natural(case, layout.length) as usize;
+    let mut tenths = [0i32; 144];
+    let mut marks = [0u8; 144];
+    let mut floats = [0.0f32; 144];
+    fill(case, layout.list, &mut tenths, &mut marks, &mut floats);
+    let mut list = [NO_SET; 800];
+    let mut out = [UNWRITTEN; 17];
+    let returned = call(case, length, &tenths, &marks, &floats, &mut list, &mut out);
+    io::print_decimal(STDOUT_FILENO, returned as u64);
+    print_numbers(&out, &list);
+    io::write_all(STDOUT_FILENO, b"\n");
 }

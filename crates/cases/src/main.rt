@@ -2,8 +2,8 @@
 // tests/reference, to be compared with what the reference says. A line is decimal numbers parted by blanks, the first of
 // which names the call (tests/reference/README.md). Nothing here is part of the library; it is proved to be safe and to end.
 mod answers;
+mod lists;
 mod numbers;
-mod sets;
 
 use libc::STDIN_FILENO;
 use numbers::Case;

@@ -73,3 +73,12 @@ pub fn signed(case: Case, i: usize) -> i32 {
     }
     size as i32
 }
+
+// The float whose bits stand at a place. Every NaN is the same one to the library.
+pub fn float(case: Case, i: usize) -> f32 {
+    let bits = natural(case, i);
+    if 2139095040 < bits % 2147483648 {
+        return 0.0 / 0.0;
+    }
+    f32::from_bits(bits)
+}

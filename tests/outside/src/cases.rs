@@ -92,7 +92,7 @@ fn lift(seeded: &mut Seeded, rest: &[i64]) -> Frame {
         .done()
 }
 
-/// The numbers of an answer as a case answer has them, `-` for no second term.
+/// The numbers of an answer, or the refusal's number alone.
 pub fn answer_of(returned: u32, frame: &Frame) -> String {
     if returned != 0 {
         return returned.to_string();
@@ -100,28 +100,17 @@ pub fn answer_of(returned: u32, frame: &Frame) -> String {
     let mut words = vec!["0".to_string()];
     let mut say = |numbers: &[i32]| words.extend(numbers.iter().map(|number| number.to_string()));
     match frame.call {
-        Call::Rate | Call::RateReadings | Call::Bill => {
-            let out: &[i32] = match frame.call {
-                Call::Rate => frame.array(1),
-                Call::RateReadings => frame.array(2),
-                _ => &frame.array(3)[..7],
-            };
-            say(&out[..3]);
-            say(&out[4..]);
-            if out[3] == 0 {
-                words[3] = "-".to_string();
-            }
-        }
         Call::Lift => {
             let count = frame.array::<i32>(2)[0];
             say(&[count]);
             let masks = &frame.array::<u16>(1)[..count as usize];
             words.extend(masks.iter().map(|mask| mask.to_string()));
         }
-        Call::Cover | Call::Octaves => say(frame.array(1)),
+        Call::Rate | Call::Cover | Call::Octaves => say(frame.array(1)),
+        Call::RateReadings | Call::Specimens | Call::Grade => say(frame.array(2)),
+        Call::Bill => say(&frame.array(3)[..7]),
         Call::Owed | Call::Close => say(&frame.array(1)[..1]),
         Call::RegisterOpen => (),
-        Call::Specimens | Call::Grade => say(frame.array(2)),
         _ => say(frame.array(0)),
     }
     words.join(" ")

@@ -1,8 +1,8 @@
--- `cases::sets::float_at` is safe: a pattern above the infinities is a NaN's and was turned away. Assumes nothing.
+-- `cases::numbers::float` is safe: a pattern above the infinities is a NaN's and was turned away. Assumes nothing.
 use borrow.Author.Needs.{needs}
 use Rattle.cases.proofs.Patterns.{no-nan}
-use Rattle.cases.proofs.sets.float_at.Statement.{statement}
-use Rattle.cases.proofs.sets.float_at.Tie as tie
+use Rattle.cases.proofs.numbers.float.Statement.{statement}
+use Rattle.cases.proofs.numbers.float.Tie as tie
 
 natural-requires : tie.Need-natural-requires
 natural-requires c κs = search needs
@@ -16,5 +16,5 @@ float-from-bits-result c = no-nan (c .before .natural .result) (c .if1 .left)
 returns-2 : tie.Need-returns-2
 returns-2 c = search needs
 
-pub float-at-spec : {M : Type 1} → statement M
-float-at-spec = tie.close (tie.spec natural-requires returns float-from-bits-result returns-2)
+pub float-spec : {M : Type 1} → statement M
+float-spec = tie.close (tie.spec natural-requires returns float-from-bits-result returns-2)
