@@ -81,8 +81,10 @@ pub fn time_calls() {
     row!("rating from readings, airborne thirds", readings(&WALL, 1),
         floats => rate_readings(0, &[0; 16], floats, &mut out));
     let mut list = [0; 696];
-    row!("lift list, airborne thirds, 1 to 4 dB", targets(),
+    row!("lift list, airborne thirds, 1 to 4 dB", targets::<16>(0),
         (set, target) => lift(0, set, 0, *target, &mut list, &mut out));
+    row!("lift list, airborne octaves, 1 to 4 dB", targets::<5>(1),
+        (set, target) => lift(1, set, 0, *target, &mut list, &mut out));
     row!("grade, three specimens", readings(&WINDOW, 3),
         floats => grade(0, &[0; 48], floats, &mut out));
     let mut text = [0; 64];
@@ -172,10 +174,11 @@ fn readings(shape: &[i32; 16], sets: usize) -> Vec<Vec<f32>> {
 }
 
 /// Sets with targets 1 to 4 dB above their ratings.
-fn targets() -> Vec<([i32; 16], i32)> {
+fn targets<const N: usize>(kind: u32) -> Vec<([i32; N], i32)> {
     let mut sheet = [0; 6];
     let target = |(place, set): (usize, [i32; 16])| {
-        assert_eq!(imbrolt_plain::door::rate(0, &set, 0, &mut sheet), 0);
+        let set: [i32; N] = core::array::from_fn(|band| set[band * 16 / N]);
+        assert_eq!(imbrolt_plain::door::rate(kind, &set, 0, &mut sheet), 0);
         (set, sheet[0] + 1 + place as i32 % 4)
     };
     sets(&WALL).into_iter().enumerate().map(target).collect()
