@@ -131,6 +131,13 @@ sought-by k s m p shifts e w =
 pub position-small : (k : Kind) (s : BandSet) (p shifts : ℕ) → accepted s (bandsOf k) ≡ true → Sought k s p shifts → p < 500
 position-small k s p shifts acc w = omega (arith, start-below k s acc, w .distance)
 
+-- the rating at the position found
+pub rating-made : (k : Kind) (s : BandSet) → accepted s (bandsOf k) ≡ true → (m : Numbers) → m ≡ numbersOf k → (p shifts : ℕ) (r : ℤ)
+    → Sought k s p shifts → r ≡ ratingBy (m .airborne) (m .origin .0) p → r ≡ ratingOf k (bandOf s)
+unfolding numbersOf
+rating-made k s acc m e p shifts r found w =
+    w ∙ ap (λ (q : Numbers). ratingBy (q .airborne) (q .origin .0) p) e ∙ sym (rating-is k s acc p shifts found)
+
 -- the second term: given for airborne, absent for impact
 pub data SecondAt (m : Numbers) (s : BandSet) (p : ℕ) : Term → Type 0 where
   given : (d : Decibels) → m .airborne ≡ true → d .0 ≡ halfUp (termOf (m .airborne) (m .origin .0) (levelAt (m .airborne) s (m .second)) (m .bands) p)
