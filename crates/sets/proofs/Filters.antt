@@ -129,7 +129,7 @@ module _ (before : ℕ → ℕ → Bool) (chain : (a b c : ℕ) → T (before a 
       in-order a l (and-right (before r a) (rising a l) t) i j (omega arith) (omega arith)
 
 -- ---- as a loop goes along the list
-filter-append : (ok : ℕ → Bool) (l r : List ℕ) → filter ok (l ++ r) ≡ filter ok l ++ filter ok r
+pub filter-append : (ok : ℕ → Bool) (l r : List ℕ) → filter ok (l ++ r) ≡ filter ok l ++ filter ok r
 unfolding filter
 filter-append ok [] r = refl
 filter-append ok (a ∷ l) r = go (ok a) (filter-append ok l r)

@@ -7,3 +7,4 @@ pub mod Enumeration
 pub mod Trial
 pub mod Counting
 pub mod Minimal
+pub mod Joining
