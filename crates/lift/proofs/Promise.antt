@@ -27,7 +27,7 @@ use Rattle.sets.proofs.Enumeration.{all-sets, sets-rise, every-set}
 use Rattle.lift.specs.declared.lists.Lifted.{Lifted}
 use Rattle.lift.specs.declared.lists.Lifted.the-variants.{Count, Refused}
 use Rattle.lift.specs.Reach.{betterBy, reaches, listedMask, liftList, Listed}
-use Rattle.lift.specs.Calls.{inTargets, placesOf, tested, countOf, answerBy, answerOf, front, bufferBy, LiftIs}
+use Rattle.lift.specs.Calls.{inTargets, placesOf, tested, countOf, answerBy, answerOf, bufferBy, LiftIs}
 
 module _ (k : Kind) (x : ℕ → ℤ) (t : ℤ) where
   abbrev fails : ℕ → ℕ → Bool
@@ -107,14 +107,12 @@ module _ (k : Kind) (s : BandSet) (t : ℤ) (lent : List ℕ) where
 
   -- the list stands from place 0 on
   pub list-written : (n : ℕ) (after : List ℕ) → LiftIs k s t lent (Count n) after → (i : ℕ) → i < n → getD after i 0 ≡ getD list i 0
-  unfolding front
   list-written n after w i h =
       ap (λ (l : List ℕ). getD l i 0) (w .buffer)
       ∙ List·getD-append list (drop (length list) lent) 0 i (omega (arith, count-right n after w))
 
   -- every other place is as it was: after the count, and on a refusal all of them
   pub rest-kept : (r : Lifted) (after : List ℕ) → LiftIs k s t lent r after → (i : ℕ) → taken r ≤ i → getD after i 0 ≡ getD lent i 0
-  unfolding front
   rest-kept (Refused r) after w i h = ap (λ (l : List ℕ). getD l i 0) (w .buffer)
   rest-kept (Count n) after w i h =
       let c : n ≡ length list = count-right n after w in

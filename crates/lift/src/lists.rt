@@ -54,7 +54,7 @@ struct Part {
 // A set and one band more.
 fn joined(part: Part, band: usize, gain: u32) -> Part
     requires { ⌜ (band < 16) × (gain < 10000) ⌝ }
-    requires { ⌜ (part .mask < 2 ^ band) × (part .sum < 100000) ⌝ }
+    requires { ⌜ (part .mask < 2 ^ band) × (part .sum < 200000) ⌝ }
     ensures { λ r. ⌜ (r .mask ≡ part .mask + 2 ^ band) × (r .sum ≡ part .sum + gain) ⌝ }
     ensures { λ r. ⌜ (r .least ≡ min (part .least) gain) × (r .from ≡ band + 1) ⌝ }
 {
