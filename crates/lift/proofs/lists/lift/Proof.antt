@@ -1,37 +1,45 @@
+-- `lift::lists::lift` meets its contract: the rating's refusal, or what follows from the rating. Assumes nothing.
+use mathlib.Core.Path.{sym, _∙_}
+use borrow.Author.Needs.{needs}
+use Rattle.lift.proofs.Answers.{Rates, alone-rates, from-rated, from-refused}
 use Rattle.lift.proofs.lists.lift.Statement.{statement}
 use Rattle.lift.proofs.lists.lift.Tie as tie
-use Rattle.lift.proofs.lists.lift.Reads as reads
-use Rattle.lift.proofs.lists.lift.Lts as lts
-use Rattle.lift.proofs.lists.lift_rated.Reads as lift-rated-reads
-use Rattle.rating.proofs.rate_alone.Reads as rate-alone-reads
 
--- src/lists.rt:235:11
+-- the set was accepted, and rates so
+rates : (c : tie.After-rating) → let a = c .before .before .before .before .args in Rates (a .kind) (a .set) (c .rating .given .0 .0)
+rates c =
+    let a = c .before .before .before .before .args in
+    alone-rates (a .kind) (a .set) (c .rating .given .0 .0) (sym (c .rating .given .1) ∙ c .before .before .rate-alone .ensures)
+
 rate-alone-requires : tie.Need-rate-alone-requires
-rate-alone-requires c κs = ?
+rate-alone-requires c κs = search needs
 
--- src/lists.rt:236:23
 enum-known-rating : tie.Need-enum-known-rating
-enum-known-rating c = ?
+enum-known-rating c = search needs
 
--- src/lists.rt:236:34
 lift-rated-requires : tie.Need-lift-rated-requires
-lift-rated-requires c κs = ?
+lift-rated-requires c κs = let r = rates (c .before .before) in (r .acc, r .rating)
 
--- src/lists.rt:237:24
 enum-known-refusal : tie.Need-enum-known-refusal
-enum-known-refusal c = ?
+enum-known-refusal c = search needs
 
--- src/lists.rt:232:1
 same-length : tie.Need-same-length
-same-length c = ?
+same-length c = search needs
 
--- src/lists.rt:232:1
 returns : tie.Need-returns
-returns c = ?
+returns c =
+    let l = c .before .before in
+    let b = l .before .before .before in
+    let a = b .before .before .before .before .args in
+    from-rated (a .kind) (a .set) (a .target .0) (b .rating .given .0 .0) (a .out .now) (l .lift-rated .result) (l .lift-rated .last .1 .1 .1 .1 .0)
+    (rates b) (l .lift-rated .ensures)
 
--- src/lists.rt:232:1
 returns-2 : tie.Need-returns-2
-returns-2 c = ?
+returns-2 c =
+    let b = c .before in
+    let a = b .before .before .before .before .args in
+    from-refused (a .kind) (a .set) (a .target .0) (b .refusal .given .0 .0) (a .out .now)
+    (sym (b .refusal .given .1) ∙ b .before .before .rate-alone .ensures)
 
 pub lift-spec : {M : Type 1} → statement M
 lift-spec =
