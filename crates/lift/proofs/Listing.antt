@@ -75,7 +75,7 @@ origin-small A1 = omega arith
 origin-small I3 = omega arith
 origin-small I1 = omega arith
 
-pub targets-read : (t : ℤ) → inTargets t ≡ true → (N t ≤ 100) × (P t ≤ 200)
+targets-read : (t : ℤ) → inTargets t ≡ true → (N t ≤ 100) × (P t ≤ 200)
 unfolding inTargets
 targets-read t e =
     let w : T (leZ (negsuc 99) t && leZ t (pos 200)) = holds e in (

@@ -13,10 +13,10 @@ use Rattle.laws.specs.Extremes.{one-if}
 use Rattle.curve.specs.Bands.{bit}
 
 -- the lowest bit, and a bit above it
-pub bit-low : (m : ℕ) → bit m 0 ≡ eqb (m % 2) 1
+bit-low : (m : ℕ) → bit m 0 ≡ eqb (m % 2) 1
 bit-low m = ap (λ (n : ℕ). eqb (n % 2) 1) (div-one m)
 
-pub next-half : (m i : ℕ) → m / 2 ^ suc i ≡ m / 2 / 2 ^ i
+next-half : (m i : ℕ) → m / 2 ^ suc i ≡ m / 2 / 2 ^ i
 next-half m i = ap (λ (d : ℕ). m / d) (pow-succ' 2 i) ∙ sym (div-div-eq-div-mul m 2 (2 ^ i))
 
 bit-next : (m i : ℕ) → bit m (suc i) ≡ bit (m / 2) i
@@ -95,7 +95,7 @@ lowest m = go (eqb (m % 2) 1) refl
     go true e = sym (eqb-true (m % 2) 1 e)
     go false e = omega (arith, eqb-false (m % 2) 1 e)
 
-pub pack-of : (n m : ℕ) → m < 2 ^ n → pack (bit m) n ≡ m
+pack-of : (n m : ℕ) → m < 2 ^ n → pack (bit m) n ≡ m
 unfolding pack
 pack-of zero m h = omega arith
 pack-of (suc n) m h =

@@ -4,7 +4,7 @@
 use mathlib.Core.Path.{_≡_, refl, sym, _∙_, ap, subst}
 use mathlib.Core.Bool.{Bool, true, false, not, cond, _&&_, _||_}
 use mathlib.Core.Logic.{_⊎_, inl, inr, ⊎-elim}
-use Prim.Native.Nat.{ℕ, zero, suc, _+_, _/_, _%_, _^_, _≤_, _<_, min}
+use Prim.Native.Nat.{ℕ, zero, suc, _+_, _≤_, _<_, min}
 use native.Mathlib.Nat.{le-refl, le-of-eq, not-le-of-lt, lt-of-not-le}
 use native.Mathlib.Decide.{decLt, decLe, ℕ-discrete as decEq}
 use native.Mathlib.Omega.{arith}
@@ -15,7 +15,7 @@ use Rattle.laws.proofs.Sums.{sum-same, sum-mono, sum-const}
 use Rattle.curve.specs.Bands.{allTo, bit}
 use Rattle.sets.specs.Masks.{part, smaller}
 use Rattle.sets.specs.Gains.{gainsOf, leastOf, listedBy}
-use Rattle.sets.proofs.Tests.{holds, is-false, one-test, and-left, and-right, and-both, all-read, all-made}
+use Rattle.sets.proofs.Tests.{holds, one-test, and-left, and-right, and-both, all-read, all-made}
 use Rattle.sets.proofs.Bits.{zero-bit, pack, pack-bit, pack-below, same-bits, Apart, parted}
 
 -- two sums that differ at one place only

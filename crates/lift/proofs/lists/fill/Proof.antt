@@ -1,7 +1,7 @@
 -- `lift::lists::fill` meets its contract. The invariant: the listed sets of at most `more` bands are written; those of one band
 -- more are the next piece of the list. Assumes nothing.
 use mathlib.Core.List.{List, [], _++_}
-use mathlib.Core.Path.{_≡_, subst}
+use mathlib.Core.Path.{subst}
 use Prim.Native.Nat.{ℕ, _+_, _-_, _≤_}
 use native.Mathlib.Omega.{arith}
 use borrow.Author.Needs.{needs}
