@@ -11,9 +11,11 @@ use lib.IntN.{ℤ, pos, negsuc}
 use lib.ListN.{length}
 use lib.Signed.{leZ, ltZ, _≤ℤ_}
 use Rattle.laws.specs.Parts.{P, N}
+use Rattle.laws.specs.Lists.{front}
 use Rattle.laws.proofs.Ints.{lt-yes, lt-no, le-made, le-read}
 use Rattle.quantity.specs.Quantities.{bandOf}
 use Rattle.quantity.specs.declared.quantities.BandSet.{BandSet}
+use Rattle.quantity.specs.declared.quantities.Decibels.{Decibels}
 use Rattle.quantity.specs.declared.refusals.Refusal.{Refusal}
 use Rattle.quantity.specs.declared.refusals.Refusal.the-variants.{BandCount, BandRange, NotBetter, TargetRange, NoRoom}
 use Rattle.curve.specs.Bands.{accepted}
@@ -21,21 +23,20 @@ use Rattle.curve.specs.Levels.{at, levelBy, Entries}
 use Rattle.curve.proofs.Searched.{count-most}
 use Rattle.rating.specs.declared.kinds.Kind.{Kind}
 use Rattle.rating.specs.declared.kinds.Numbers.{Numbers}
-use Rattle.rating.specs.declared.sheets.Sheet.{Sheet}
+use Rattle.rating.specs.declared.sheets.Alone.the-variants.{Rating as Number, Refused as Denied}
 use Rattle.rating.specs.declared.sheets.Rated.{Rated}
 use Rattle.rating.specs.declared.sheets.Rated.the-variants.{Rating, Refused as Unrated}
 use Rattle.rating.specs.Kinds.{airborne, bandsOf, limitOf}
 use Rattle.rating.specs.Curve.{ratingOf}
 use Rattle.rating.specs.Numbers.{entriesOf, numbersOf, ratingAt}
-use Rattle.rating.specs.Sheets.{asked, sheetOf, ratedOf}
+use Rattle.rating.specs.Sheets.{asked, sheetOf, ratedOf, aloneOf}
 use Rattle.rating.proofs.Facts.{count-of, entries-fit}
-use Rattle.sets.specs.Gains.{byGains, Countable, Gained}
-use Rattle.laws.proofs.Tests.{is-true, is-false}
+use Rattle.sets.specs.Gains.{byGains, Bounded, Countable, Gained}
+use Rattle.sets.proofs.Tests.{is-true, is-false}
 use Rattle.lift.specs.declared.lists.Lifted.{Lifted}
 use Rattle.lift.specs.declared.lists.Lifted.the-variants.{Count, Refused}
 use Rattle.lift.specs.Reach.{betterBy, liftList}
 use Rattle.lift.specs.Calls.{inTargets, placesOf, countOf, answerBy, answerOf, RatedIs, LiftIs}
-use Rattle.laws.specs.Lists.{front}
 use Rattle.lift.proofs.Listing.{can-count, position-small, above-limit, need-small, gains-small, list-is, list-room}
 
 -- ---- the range of targets
@@ -92,45 +93,50 @@ module _ (k : Kind) (s : BandSet) (t r : ℤ) (before : List ℕ) where
   all-listed e d h n after c f = record { answer = rw (e, d, le-leb (placesOf k) room h, c); buffer = f }
 
 -- ---- the rating's answer
-rated-as : (k : Kind) (s : BandSet) (sheet : Sheet) → Rating sheet ≡ ratedOf k s → (accepted s (bandsOf k) ≡ true) × (sheet ≡ sheetOf k s)
-unfolding ratedOf
-rated-as k s sheet e = go (eqb (s .len) (bandsOf k)) (accepted s (bandsOf k)) e
+-- the rating alone is that of a sheet, of a set that was accepted
+pub record Rates (k : Kind) (s : BandSet) (d : Decibels) : Type 0 where
+  pub acc : accepted s (bandsOf k) ≡ true
+  pub rating : d .0 ≡ ratingOf k (bandOf s)
+  pub sheet : ratedOf k s ≡ Rating (sheetOf k s)
+
+pub alone-rates : (k : Kind) (s : BandSet) (d : Decibels) → Number d ≡ aloneOf (ratedOf k s) → Rates k s d
+unfolding ratedOf sheetOf
+alone-rates k s d e = go (eqb (s .len) (bandsOf k)) refl (accepted s (bandsOf k)) refl e
   where
-    go : (a b : Bool) → Rating sheet ≡ asked a (asked b (Rating (sheetOf k s)) (Unrated BandRange)) (Unrated BandCount)
-        → (b ≡ true) × (sheet ≡ sheetOf k s)
-    go true true e = (refl, cc)
-    go true false e = (cc, cc)
-    go false b e = (cc, cc)
+    go : (a : Bool) → eqb (s .len) (bandsOf k) ≡ a → (b : Bool) → accepted s (bandsOf k) ≡ b
+        → Number d ≡ aloneOf (asked a (asked b (Rating (sheetOf k s)) (Unrated BandRange)) (Unrated BandCount)) → Rates k s d
+    go true p true q e = record { acc = q; rating = cc; sheet = rw (p, q) }
+    go true p false q e = record { acc = cc; rating = cc; sheet = cc }
+    go false p b q e = record { acc = cc; rating = cc; sheet = cc }
 
-pub rated-accepted : (k : Kind) (s : BandSet) (sheet : Sheet) → Rating sheet ≡ ratedOf k s → accepted s (bandsOf k) ≡ true
-rated-accepted k s sheet e = rated-as k s sheet e .0
-
-pub rated-rating : (k : Kind) (s : BandSet) (sheet : Sheet) → Rating sheet ≡ ratedOf k s → sheet .rating .0 ≡ ratingOf k (bandOf s)
-unfolding sheetOf
-rated-rating k s sheet e = ap (λ (h : Sheet). h .rating .0) (rated-as k s sheet e .1)
-
-pub from-rated : (k : Kind) (s : BandSet) (t : ℤ) (sheet : Sheet) (before : List ℕ) (r : Lifted) (after : List ℕ)
-    → Rating sheet ≡ ratedOf k s → RatedIs k s t (sheet .rating .0) before r after → LiftIs k s t before r after
-unfolding answerOf
-from-rated k s t sheet before r after e w =
-    record { answer = w .answer ∙ ap (λ (q : Rated). answerBy q k s t (length before)) e; buffer = w .buffer }
+pub from-rated : (k : Kind) (s : BandSet) (t : ℤ) (d : Decibels) (before : List ℕ) (r : Lifted) (after : List ℕ)
+    → Rates k s d → RatedIs k s t (d .0) before r after → LiftIs k s t before r after
+unfolding answerOf sheetOf
+from-rated k s t d before r after e w = record {
+  answer =
+      w .answer ∙ ap (countOf k s t (length before)) (e .rating) ∙ ap (λ (q : Rated). answerBy q k s t (length before)) (sym (e .sheet));
+  buffer = w .buffer;
+}
 
 pub from-refused : (k : Kind) (s : BandSet) (t : ℤ) (refusal : Refusal) (before : List ℕ)
-    → Unrated refusal ≡ ratedOf k s → LiftIs k s t before (Refused refusal) before
+    → Denied refusal ≡ aloneOf (ratedOf k s) → LiftIs k s t before (Refused refusal) before
 unfolding answerOf
-from-refused k s t refusal before e = record { answer = ap (λ (q : Rated). answerBy q k s t (length before)) e; buffer = refl }
+from-refused k s t refusal before e = record { answer = go (ratedOf k s) e; buffer = refl }
+  where
+    go : (q : Rated) → Denied refusal ≡ aloneOf q → Refused refusal ≡ answerBy q k s t (length before)
+    go (Rating sheet) e = cc
+    go (Unrated r) e = cc
 
 -- ---- the numbers fetched for the kind
 pub sign-is : (k : Kind) (n : Numbers) → n ≡ numbersOf k → n .airborne ≡ airborne k
 unfolding numbersOf
 sign-is k n e = ap (λ (m : Numbers). m .airborne) e
 
-pub record Worked (k : Kind) (s : BandSet) (t : ℤ) (gains : List ℕ) (sum limit room : ℕ) : Type 0 where
-  pub over : limit ≤ sum
-  pub need : sum - limit < 1000000
-  pub small : (i : ℕ) → at gains i < 10000
-  pub list : byGains gains (sum - limit) ≡ liftList k (bandOf s) t
-  pub fits : length (byGains gains (sum - limit)) ≤ room
+pub record Worked (k : Kind) (s : BandSet) (t : ℤ) (gains : List ℕ) (sum room : ℕ) (n : Numbers) : Type 0 where
+  pub over : n .limit ≤ sum
+  pub bounded : Bounded gains (n .bands) (sum - n .limit)
+  pub list : byGains (at gains) (sum - n .limit) (n .bands) ≡ liftList k (bandOf s) t
+  pub fits : length (byGains (at gains) (sum - n .limit) (n .bands)) ≤ room
 
 module _ (k : Kind) (s : BandSet) (acc : accepted s (bandsOf k) ≡ true) (t : ℤ) (range : inTargets t ≡ true)
     (good : betterBy (airborne k) t (ratingOf k (bandOf s)) ≡ true) (n : Numbers) (e : n ≡ numbersOf k) where
@@ -156,19 +162,22 @@ module _ (k : Kind) (s : BandSet) (acc : accepted s (bandsOf k) ≡ true) (t : �
       )
 
   pub worked : (p room : ℕ) (gains : List ℕ) (sum : ℕ) → p ≡ levelBy (n .airborne) t (n .origin .0) → placesOf k ≤ room
-      → Gained (n .airborne) s (n .entries) (n .bands) p gains sum → Worked k s t gains sum (n .limit) room
+      → Gained (n .airborne) s (n .entries) (n .bands) p gains sum → Worked k s t gains sum room n
   unfolding numbersOf
   worked p room gains sum d h g =
       let at-p : p ≡ levelBy (airborne k) t (ratingAt k) = d ∙ ap (λ (m : Numbers). levelBy (m .airborne) t (m .origin .0)) e in
       let w : Gained (airborne k) s (entriesOf k) (bandsOf k) (levelBy (airborne k) t (ratingAt k)) gains sum =
       subst (λ (v : ℕ). Gained (airborne k) s (entriesOf k) (bandsOf k) v gains sum) at-p
       (subst (λ (m : Numbers). Gained (m .airborne) s (m .entries) (m .bands) p gains sum) e g) in
-      let l : byGains gains (sum - limitOf k) ≡ liftList k (bandOf s) t = list-is k s acc t range good gains sum w in
-      subst (λ (m : Numbers). Worked k s t gains sum (m .limit) room) (sym e)
+      let l : byGains (at gains) (sum - limitOf k) (bandsOf k) ≡ liftList k (bandOf s) t = list-is k s acc t range good gains sum w in
+      subst (Worked k s t gains sum room) (sym e)
       (record {
         over = le-of-lt (above-limit k s acc t range good gains sum w);
-        need = need-small k s acc t range good gains sum w;
-        small = gains-small k s acc t range good gains sum w;
+        bounded = record {
+          bands = count-most (count-of k);
+          needed = need-small k s acc t range good gains sum w;
+          small = gains-small k s acc t range good gains sum w;
+        };
         list = l;
         fits = subst (λ (v : List ℕ). length v ≤ room) (sym l) (list-room k (bandOf s) t room h);
       })

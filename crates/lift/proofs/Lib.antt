@@ -1,6 +1,5 @@
 -- Laws of the lift list.
-pub mod Fronts
-pub mod Filling
+pub mod Joined
 pub mod Reached
 pub mod Listing
 pub mod Answers

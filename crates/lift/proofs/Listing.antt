@@ -1,14 +1,13 @@
 -- The list by gains is the list by ratings. At the target's position the total of a lifted set is the total less the gains of
--- its bands, so a set reaches where its gains make up what is over the limit; the bands past the kind's count gain nothing, so
--- no listed set has one. One proof over the kind. Assumes nothing.
+-- its bands, so a set reaches where its gains make up what is over the limit. One proof over the kind. Assumes nothing.
 use mathlib.Core.Path.{_≡_, refl, sym, _∙_, ap, ap₂, subst}
-use mathlib.Core.Bool.{Bool, true, false, not, cond, _&&_, _||_}
-use mathlib.Core.List.{List, List·Memᴰ}
-use Prim.Native.Nat.{ℕ, zero, suc, _+_, _*_, _-_, _^_, _≤_, _<_}
+use mathlib.Core.Bool.{Bool, true, false, not, cond, _&&_}
+use mathlib.Core.List.{List}
+use Prim.Native.Nat.{ℕ, zero, suc, _+_, _*_, _-_, _≤_, _<_}
 use native.Mathlib.Nat.{add-zero, add-suc, lt-of-not-le, not-le-of-lt}
 use native.Mathlib.Decide.{decLt}
 use native.Mathlib.Omega.{arith}
-use lib.Dec.{T, leb, ltb, leb→le, le→leb}
+use lib.Dec.{T, leb, leb→le, le→leb}
 use lib.IntN.{ℤ, pos, negsuc, _+ℤ_, _-ℤ_}
 use lib.ListN.{length}
 use lib.Signed.{leZ}
@@ -20,8 +19,7 @@ use Rattle.laws.proofs.Sums.{sum-same, sum-plus}
 use Rattle.quantity.specs.Quantities.{inRange, bandOf}
 use Rattle.quantity.specs.declared.quantities.BandSet.{BandSet}
 use Rattle.quantity.proofs.Rim.{sum-value, difference-value}
-use Rattle.curve.specs.Bands.{accepted}
-use Rattle.laws.specs.Tests.{anyTo, bit}
+use Rattle.curve.specs.Bands.{accepted, bit}
 use Rattle.curve.specs.Levels.{at, levelBy, levelAt, startAt}
 use Rattle.curve.proofs.Walks.{total-most}
 use Rattle.curve.proofs.Counted.{counted, level-parts}
@@ -34,16 +32,14 @@ use Rattle.rating.specs.Numbers.{entryBy, entriesOf, startAdd, ratingAt, rating
 use Rattle.rating.proofs.Bridge.{positionBy, EntryOf, entry-parts, deficit-level}
 use Rattle.rating.proofs.Facts.{count-of, entries-fit}
 use Rattle.rating.proofs.Meaning.{total-is, rating-is}
-use Rattle.sets.specs.Masks.{isMask, smaller, choose, masksInOrder, filter}
+use Rattle.sets.specs.Masks.{isMask, smaller, choose, masksInOrder}
 use Rattle.sets.specs.Highest.{highest}
 use Rattle.sets.specs.Gains.{targetAt, lacking, gain, gainsOf, listedBy, byGains, Countable, Gained}
-use Rattle.sets.proofs.Tests.{Passing, any-read}
-use Rattle.laws.proofs.Tests.{holds, is-true, one-test, and-left, and-right}
-use Rattle.laws.proofs.Ranges.{all-same}
-use Rattle.sets.proofs.Filters.{filter-same, filter-twice, filter-length, each-of}
-use Rattle.sets.proofs.Enumeration.{all-sets, fewer, higher, high-bands, set-word, set-some}
+use Rattle.sets.proofs.Tests.{holds, is-true, one-test, and-left, and-right, all-same}
+use Rattle.sets.proofs.Filters.{filter-same, filter-length, each-of}
+use Rattle.sets.proofs.Enumeration.{all-sets, set-word, set-some}
 use Rattle.sets.proofs.Counting.{best-in, best-most}
-use Rattle.sets.proofs.Minimal.{least-is, idle-band}
+use Rattle.sets.proofs.Minimal.{least-is}
 use Rattle.lift.specs.Reach.{betterBy, meetsBy, lifted, reaches, listedMask, liftList}
 use Rattle.lift.specs.Calls.{inTargets, placesOf}
 use Rattle.lift.proofs.Reached.{meets-is, reaches-is}
@@ -79,7 +75,7 @@ origin-small A1 = omega arith
 origin-small I3 = omega arith
 origin-small I1 = omega arith
 
-pub targets-read : (t : ℤ) → inTargets t ≡ true → (N t ≤ 100) × (P t ≤ 200)
+targets-read : (t : ℤ) → inTargets t ≡ true → (N t ≤ 100) × (P t ≤ 200)
 unfolding inTargets
 targets-read t e =
     let w : T (leZ (negsuc 99) t && leZ t (pos 200)) = holds e in (
@@ -239,24 +235,10 @@ module _ (k : Kind) (s : BandSet) (acc : accepted s (bandsOf k) ≡ true) (t : �
         (λ r h. ap (λ (b : Bool). not (smaller r m && b)) (reach-by r)))
         ∙ least-is (at gains) need m (omega (arith, above-limit)) gains-small (set-word k m u) (set-some k m u)
 
-    -- no listed set has a band past the kind's
-    within-bands : (m : ℕ) → List·Memᴰ m (masksInOrder 16) → T (listedBy (at gains) need m) → T (ltb m (2 ^ n))
-    within-bands m h u = go (ltb m (2 ^ n)) (each-of (higher n) (masksInOrder 16) m (high-bands k) h)
-      where
-        go : (b : Bool) → T (b || anyTo (λ j. bit m (n + j)) (16 - n)) → T b
-        go true v = tt
-        go false v =
-            let a : Passing (λ j. bit m (n + j)) (16 - n) = any-read (λ j. bit m (n + j)) (16 - n) v in
-            subst T
-            (idle-band (at gains) need m (n + a .place) (omega (arith, a .below)) (is-true (bit m (n + a .place)) (a .passes))
-            (w .rest (n + a .place) (omega arith))) u
-
-    pub list-is : byGains gains need ≡ liftList k x t
+    pub list-is : byGains (at gains) need n ≡ liftList k x t
     unfolding byGains liftList
     list-is =
-        filter-twice (listedBy (at gains) need) (λ m. ltb m (2 ^ n)) (masksInOrder 16) within-bands
-        ∙ ap (filter (listedBy (at gains) need)) (sym (fewer k))
-        ∙ sym (filter-same (listedMask k x t) (listedBy (at gains) need) (masksInOrder n)
+        sym (filter-same (listedMask k x t) (listedBy (at gains) need) (masksInOrder n)
         (λ m h. listed-by m (each-of (isMask n) (masksInOrder n) m (all-sets k) h)))
 
 -- the list has room where the kind's places are lent

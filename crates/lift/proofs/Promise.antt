@@ -13,15 +13,14 @@ use lib.Seq.{getD-append-add, getD-drop}
 use Rattle.quantity.specs.Quantities.{bandOf}
 use Rattle.quantity.specs.declared.quantities.BandSet.{BandSet}
 use Rattle.quantity.specs.declared.refusals.Refusal.the-variants.{NotBetter, TargetRange, NoRoom}
-use Rattle.laws.specs.Tests.{allTo}
+use Rattle.curve.specs.Bands.{allTo}
 use Rattle.rating.specs.declared.kinds.Kind.{Kind}
 use Rattle.rating.specs.declared.sheets.Rated.{Rated}
 use Rattle.rating.specs.declared.sheets.Rated.the-variants.{Rating, Refused as Unrated}
 use Rattle.rating.specs.Kinds.{airborne, bandsOf}
 use Rattle.rating.specs.Sheets.{ratedOf}
 use Rattle.sets.specs.Masks.{isMask, smaller, before, masksInOrder}
-use Rattle.laws.proofs.Tests.{and-left, and-right, and-both}
-use Rattle.laws.proofs.Ranges.{all-read, all-hold}
+use Rattle.sets.proofs.Tests.{and-left, and-right, and-both, all-read, all-made}
 use Rattle.sets.proofs.Filters.{Kept, filter-read, filter-made, each-of, rising-filter, in-order}
 use Rattle.sets.proofs.Order.{before-chain, before-other}
 use Rattle.sets.proofs.Enumeration.{all-sets, sets-rise, every-set}
@@ -29,7 +28,6 @@ use Rattle.lift.specs.declared.lists.Lifted.{Lifted}
 use Rattle.lift.specs.declared.lists.Lifted.the-variants.{Count, Refused}
 use Rattle.lift.specs.Reach.{betterBy, reaches, listedMask, liftList, Listed}
 use Rattle.lift.specs.Calls.{inTargets, placesOf, tested, countOf, answerBy, answerOf, bufferBy, LiftIs}
-use Rattle.laws.specs.Lists.{front}
 
 module _ (k : Kind) (x : ℕ → ℤ) (t : ℤ) where
   abbrev fails : ℕ → ℕ → Bool
@@ -55,7 +53,7 @@ module _ (k : Kind) (x : ℕ → ℤ) (t : ℤ) where
   listed-complete m l =
       filter-made (listedMask k x t) (masksInOrder (bandsOf k)) m (every-set k m (l .bands))
       (and-both (reaches k x t m) (allTo (fails m) 65536) (l .reaching)
-      (all-hold (fails m) 65536 (λ p w. not-T (smaller p m && reaches k x t p)
+      (all-made (fails m) 65536 (λ p w. not-T (smaller p m && reaches k x t p)
       (λ u. l .least p w (and-left (smaller p m) (reaches k x t p) u) (and-right (smaller p m) (reaches k x t p) u)))))
 
   -- "Order: by size, then by lowest band, next band, last band."
@@ -109,14 +107,12 @@ module _ (k : Kind) (s : BandSet) (t : ℤ) (lent : List ℕ) where
 
   -- the list stands from place 0 on
   pub list-written : (n : ℕ) (after : List ℕ) → LiftIs k s t lent (Count n) after → (i : ℕ) → i < n → getD after i 0 ≡ getD list i 0
-  unfolding front
   list-written n after w i h =
       ap (λ (l : List ℕ). getD l i 0) (w .buffer)
       ∙ List·getD-append list (drop (length list) lent) 0 i (omega (arith, count-right n after w))
 
   -- every other place is as it was: after the count, and on a refusal all of them
   pub rest-kept : (r : Lifted) (after : List ℕ) → LiftIs k s t lent r after → (i : ℕ) → taken r ≤ i → getD after i 0 ≡ getD lent i 0
-  unfolding front
   rest-kept (Refused r) after w i h = ap (λ (l : List ℕ). getD l i 0) (w .buffer)
   rest-kept (Count n) after w i h =
       let c : n ≡ length list = count-right n after w in

@@ -13,13 +13,13 @@ use Rattle.quantity.specs.Quantities.{bandOf}
 use Rattle.quantity.specs.declared.quantities.Tenths.{Tenths}
 use Rattle.quantity.specs.declared.quantities.BandSet.{BandSet}
 use Rattle.curve.specs.Bands.{accepted}
-use Rattle.curve.specs.Levels.{levelBy, levelAt, totalAt}
+use Rattle.curve.specs.Levels.{at, levelBy, levelAt, totalAt}
 use Rattle.rating.specs.declared.kinds.Kind.{Kind}
 use Rattle.rating.specs.Kinds.{airborne, bandsOf, limitOf}
 use Rattle.rating.specs.Curve.{ratingOf}
 use Rattle.rating.specs.Numbers.{entriesOf, ratingAt}
 use Rattle.sets.specs.Gains.{byGains, gainAt, Gained}
-use Rattle.laws.proofs.Tests.{is-true, and-left, and-right}
+use Rattle.sets.proofs.Tests.{is-true, and-left, and-right}
 use Rattle.lift.specs.Reach.{betterBy, liftList}
 use Rattle.lift.specs.Calls.{inTargets}
 use Rattle.lift.proofs.Listing.{list-is}
@@ -62,7 +62,7 @@ abbrev placeOf : Kind → ℤ → ℕ
 placeOf k t = levelBy (airborne k) t (ratingAt k)
 
 unfoldable pub quickList : Kind → List ℤ → ℤ → List ℕ
-quickList k x t = byGains (gainsAt k (setOf x) (placeOf k t)) (totalOf k (setOf x) (placeOf k t) - limitOf k)
+quickList k x t = byGains (at (gainsAt k (setOf x) (placeOf k t))) (totalOf k (setOf x) (placeOf k t) - limitOf k) (bandsOf k)
 
 unfoldable pub listable : Kind → List ℤ → ℤ → Bool
 listable k x t = accepted (setOf x) (bandsOf k) && inTargets t && betterBy (airborne k) t (ratingOf k (bandAt x))

@@ -15,9 +15,8 @@ use Rattle.laws.proofs.Sums.{sum-same, sum-mono, sumℤ-same}
 use Rattle.quantity.specs.Quantities.{inRange, bandOf}
 use Rattle.quantity.specs.declared.quantities.Tenths.{Tenths}
 use Rattle.quantity.specs.declared.quantities.BandSet.{BandSet}
-use Rattle.curve.specs.Bands.{accepted}
-use Rattle.laws.specs.Tests.{bit}
-use Rattle.laws.proofs.Ranges.{all-made}
+use Rattle.curve.specs.Bands.{accepted, bit}
+use Rattle.curve.proofs.Walks.{all-made}
 use Rattle.curve.proofs.Searched.{band-in, count-most}
 use Rattle.rating.specs.declared.kinds.Kind.{Kind}
 use Rattle.rating.specs.Kinds.{airborne, bandsOf, limitOf, referenceOf}
@@ -26,7 +25,7 @@ use Rattle.rating.proofs.Facts.{count-of}
 use Rattle.rating.proofs.Theorems.{position-best}
 use Rattle.sets.specs.Highest.{highest}
 use Rattle.sets.specs.Gains.{targetAt}
-use Rattle.laws.proofs.Tests.{one-test}
+use Rattle.sets.proofs.Tests.{one-test}
 use Rattle.sets.proofs.Counting.{best-in}
 use Rattle.lift.specs.Reach.{meetsBy, lifted, reaches}
 

@@ -1,13 +1,14 @@
 -- The lift call: its answer, and the lent buffer afterwards. Document 01, "The lift list" and "Refusal numbers" (first those of
 -- the rating, "then 9, 8, 10").
 use mathlib.Core.Bool.{Bool, true, false, _&&_}
-use mathlib.Core.List.{List, [], _∷_, _++_}
+use mathlib.Core.List.{List, [], _∷_}
 use mathlib.Core.Path.{_≡_}
 use Prim.Native.Nat.{ℕ}
 use lib.Dec.{leb}
 use lib.IntN.{ℤ, pos, negsuc}
 use lib.Signed.{leZ}
-use lib.ListN.{length, drop}
+use lib.ListN.{length}
+use Rattle.laws.specs.Lists.{front}
 use Rattle.quantity.specs.Quantities.{bandOf}
 use Rattle.quantity.specs.Refusals.{numberOf}
 use Rattle.quantity.specs.Answers.{Answer}
@@ -56,10 +57,6 @@ answerBy (Rating sheet) k s target room = countOf k s target room (sheet .rating
 -- the answer, with so many places lent
 unfoldable pub answerOf : Kind → BandSet → ℤ → ℕ → Lifted
 answerOf k s target room = answerBy (ratedOf k s) k s target room
-
--- t in front, and the rest as it was
-unfoldable pub front : List ℕ → List ℕ → List ℕ
-front t buffer = t ++ drop (length t) buffer
 
 -- "places after the count keep their contents"; "A refusal .. changes no lent buffer"
 abbrev pub bufferBy : Lifted → List ℕ → List ℕ → List ℕ

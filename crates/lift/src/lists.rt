@@ -4,28 +4,27 @@ use quantity::Decibels;
 use quantity::Refusal;
 use rating::A1Kind;
 use rating::A3Kind;
+use rating::Alone;
 use rating::I1Kind;
 use rating::I3Kind;
 use rating::Kind;
-use rating::Rated;
 use rating::numbers_of;
-use rating::rate;
+use rating::rate_alone;
 use sets::gains_at;
-use sets::mask_at;
 use sets::position_at;
 ghost use mathlib.Core.Path.{_≡_};
 ghost use mathlib.Core.Bool.{true};
-ghost use Prim.Native.Nat.{ℕ, _+_, _-_, _≤_, _<_, min};
+ghost use Prim.Native.Nat.{_+_, _^_, _≤_, _<_, min};
 ghost use lib.ListN.{length};
 ghost use Rattle.quantity.specs.Quantities.{bandOf};
 ghost use Rattle.curve.specs.Bands.{accepted};
 ghost use Rattle.curve.specs.Levels.{at};
 ghost use Rattle.rating.specs.Kinds.{airborne, bandsOf};
 ghost use Rattle.rating.specs.Curve.{ratingOf};
-ghost use Rattle.sets.specs.Gains.{listedBy, byGains};
+ghost use Rattle.laws.specs.Lists.{front};
+ghost use Rattle.sets.specs.Gains.{byGains, joinedBy, Bounded, PartOf};
 ghost use Rattle.lift.specs.Reach.{betterBy, liftList};
 ghost use Rattle.lift.specs.Calls.{inTargets, placesOf, RatedIs, LiftIs};
-ghost use Rattle.laws.specs.Lists.{front};
 
 // How many sets are listed, or why none can be.
 pub enum Lifted {
@@ -43,49 +42,106 @@ fn lesser(a: u32, b: u32) -> u32
     b
 }
 
-// Whether the gains of a set's bands make up what is needed, and without the least of them do not: then no smaller part of
-// the set reaches. A set of one band is left with no gain, and some is always needed.
-fn listed(mask: u16, gains: [u32; 16], need: u32) -> bool
-    requires { ⌜ need < 1000000 ⌝ }
-    requires { ⌜ ((i : ℕ) → at gains i < 10000) ⌝ }
-    ensures { λ r. ⌜ r ≡ listedBy (at gains) need mask ⌝ }
+// A set of bands as far as it is put together: its bands, the sum and the least of their gains, and the first band that may
+// follow.
+struct Part {
+    mask: u16,
+    sum: u32,
+    least: u32,
+    from: usize,
+}
+
+// A set and one band more.
+fn joined(part: Part, band: usize, gain: u32) -> Part
+    requires { ⌜ (band < 16) × (gain < 10000) ⌝ }
+    requires { ⌜ (part .mask < 2 ^ band) × (part .sum < 200000) ⌝ }
+    ensures { λ r. ⌜ (r .mask ≡ part .mask + 2 ^ band) × (r .sum ≡ part .sum + gain) ⌝ }
+    ensures { λ r. ⌜ (r .least ≡ min (part .least) gain) × (r .from ≡ band + 1) ⌝ }
 {
-    let mut rest = mask;
-    let mut sum = 0;
-    // every gain is less than this
-    let mut least = 10000;
-    let mut i = 0;
-    while i < 16 {
-        if rest % 2 == 1 {
-            sum += gains[i];
-            least = lesser(least, gains[i]);
+    Part {
+        mask: part.mask + (1 << band),
+        sum: part.sum + gain,
+        least: lesser(part.least, gain),
+        from: band + 1,
+    }
+}
+
+// Writes the listed sets of a part and one band more to the front of `out`, in order, and counts them: with the last band the
+// gains make up what is needed, without it, or without the least of the others, they do not.
+fn put_last(part: Part, gains: &[u32; 16], bands: usize, need: u32, out: &mut [u16]) -> usize
+    requires { ⌜ PartOf (at (now gains)) (part .mask) (part .sum) (part .least) (part .from) ⌝ }
+    requires { ⌜ Bounded (now gains) bands need ⌝ }
+    requires { ⌜ length (joinedBy (at (now gains)) need bands 1 (part .mask) (part .from)) ≤ length (now out) ⌝ }
+    ensures { λ r. ⌜ r ≡ length (joinedBy (at (now (gains .entry))) need bands 1 (part .mask) (part .from)) ⌝ }
+    ensures { λ r. ⌜ now (out .exit) ≡ front (joinedBy (at (now (gains .entry))) need bands 1 (part .mask) (part .from)) (now (out .entry)) ⌝ }
+{
+    if need <= part.sum {
+        return 0;
+    }
+    let left = need - part.sum;
+    let bound = left + part.least;
+    let mut count = 0;
+    let mut i = part.from;
+    while i < bands {
+        if left <= gains[i] {
+            if gains[i] < bound {
+                out[count] = part.mask + (1 << i);
+                count += 1;
+            }
         }
-        rest = rest / 2;
         i += 1;
     }
-    if sum < need {
-        return false;
+    count
+}
+
+// Writes the listed sets of a part and `more` bands and one to the front of `out`, in order, and counts them.
+fn put_sets(
+    more: u32,
+    part: Part,
+    gains: &[u32; 16],
+    bands: usize,
+    need: u32,
+    out: &mut [u16],
+) -> usize
+    requires { ⌜ more < 3 ⌝ }
+    requires { ⌜ PartOf (at (now gains)) (part .mask) (part .sum) (part .least) (part .from) ⌝ }
+    requires { ⌜ Bounded (now gains) bands need ⌝ }
+    requires { ⌜ length (joinedBy (at (now gains)) need bands (more + 1) (part .mask) (part .from)) ≤ length (now out) ⌝ }
+    ensures { λ r. ⌜ r ≡ length (joinedBy (at (now (gains .entry))) need bands (more + 1) (part .mask) (part .from)) ⌝ }
+    ensures { λ r. ⌜ now (out .exit) ≡ front (joinedBy (at (now (gains .entry))) need bands (more + 1) (part .mask) (part .from)) (now (out .entry)) ⌝ }
+{
+    if more == 0 {
+        return put_last(part, gains, bands, need, out);
     }
-    sum < need + least
+    let mut count = 0;
+    let mut i = part.from;
+    while i < bands {
+        let longer = joined(part, i, gains[i]);
+        count += put_sets(more - 1, longer, gains, bands, need, &mut out[count..]);
+        i += 1;
+    }
+    count
 }
 
 // Writes the listed sets to the front of `out`, in order, and counts them.
-fn fill(gains: [u32; 16], need: u32, out: &mut [u16]) -> usize
-    requires { ⌜ need < 1000000 ⌝ }
-    requires { ⌜ ((i : ℕ) → at gains i < 10000) ⌝ }
-    requires { ⌜ length (byGains gains need) ≤ length (now out) ⌝ }
-    ensures { λ r. ⌜ r ≡ length (byGains gains need) ⌝ }
-    ensures { λ r. ⌜ now (out .exit) ≡ front (byGains gains need) (now (out .entry)) ⌝ }
+fn fill(gains: &[u32; 16], bands: usize, need: u32, out: &mut [u16]) -> usize
+    requires { ⌜ Bounded (now gains) bands need ⌝ }
+    requires { ⌜ length (byGains (at (now gains)) need bands) ≤ length (now out) ⌝ }
+    ensures { λ r. ⌜ r ≡ length (byGains (at (now (gains .entry))) need bands) ⌝ }
+    ensures { λ r. ⌜ now (out .exit) ≡ front (byGains (at (now (gains .entry))) need bands) (now (out .entry)) ⌝ }
 {
+    // every gain is less than the least of no band
+    let none = Part {
+        mask: 0,
+        sum: 0,
+        least: 10000,
+        from: 0,
+    };
     let mut count = 0;
-    let mut i = 0;
-    while i < 696 {
-        let mask = mask_at(i);
-        if listed(mask, gains, need) {
-            out[count] = mask;
-            count += 1;
-        }
-        i += 1;
+    let mut more = 0;
+    while more < 3 {
+        count += put_sets(more, none, gains, bands, need, &mut out[count..]);
+        more += 1;
     }
     count
 }
@@ -143,7 +199,7 @@ fn list(kind: Kind, set: BandSet, target: Decibels, out: &mut [u16]) -> usize
     let entries = n.entries;
     let gains = gains_at(set, n.bands, n.airborne, entries, p);
     let each = gains.each;
-    fill(each, gains.total - n.limit, out)
+    fill(&each, n.bands, gains.total - n.limit, out)
 }
 
 // The list of a set that has been rated, or the refusal of its target or its room.
@@ -176,8 +232,8 @@ fn lift_rated(
 pub fn lift(kind: Kind, set: BandSet, target: Decibels, out: &mut [u16]) -> Lifted
     ensures { λ r. ⌜ LiftIs kind set (target .0) (now (out .entry)) r (now (out .exit)) ⌝ }
 {
-    match rate(kind, set) {
-        Rated::Rating(sheet) => lift_rated(kind, set, target, sheet.rating, out),
-        Rated::Refused(refusal) => Lifted::Refused(refusal),
+    match rate_alone(kind, set) {
+        Alone::Rating(rating) => lift_rated(kind, set, target, rating, out),
+        Alone::Refused(refusal) => Lifted::Refused(refusal),
     }
 }

@@ -12,11 +12,9 @@ use Rattle.laws.proofs.Lists.{listed-at}
 use Rattle.quantity.specs.Quantities.{halfUp, bandOf}
 use Rattle.quantity.specs.declared.quantities.BandSet.{BandSet}
 use Rattle.quantity.specs.declared.quantities.Decibels.{Decibels}
-use Rattle.curve.specs.Bands.{accepted, limited}
-use Rattle.laws.specs.Tests.{anyTo, bit}
+use Rattle.curve.specs.Bands.{accepted, limited, anyTo, bit}
 use Rattle.curve.specs.Levels.{at, levelAt, startAt, Entries, Settled}
-use Rattle.curve.proofs.Counted.{PartsOf, counted, level-parts}
-use Rattle.laws.proofs.Counted.{Up}
+use Rattle.curve.proofs.Counted.{PartsOf, counted, level-parts, Up}
 use Rattle.curve.proofs.Searched.{band-in, count-most, count-some}
 use Rattle.rating.specs.declared.kinds.Kind.{Kind}
 use Rattle.rating.specs.declared.kinds.Numbers.{Numbers}
@@ -132,6 +130,13 @@ sought-by k s m p shifts e w =
 
 pub position-small : (k : Kind) (s : BandSet) (p shifts : ℕ) → accepted s (bandsOf k) ≡ true → Sought k s p shifts → p < 500
 position-small k s p shifts acc w = omega (arith, start-below k s acc, w .distance)
+
+-- the rating at the position found
+pub rating-made : (k : Kind) (s : BandSet) → accepted s (bandsOf k) ≡ true → (m : Numbers) → m ≡ numbersOf k → (p shifts : ℕ) (r : ℤ)
+    → Sought k s p shifts → r ≡ ratingBy (m .airborne) (m .origin .0) p → r ≡ ratingOf k (bandOf s)
+unfolding numbersOf
+rating-made k s acc m e p shifts r found w =
+    w ∙ ap (λ (q : Numbers). ratingBy (q .airborne) (q .origin .0) p) e ∙ sym (rating-is k s acc p shifts found)
 
 -- the second term: given for airborne, absent for impact
 pub data SecondAt (m : Numbers) (s : BandSet) (p : ℕ) : Term → Type 0 where

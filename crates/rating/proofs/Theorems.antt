@@ -9,7 +9,7 @@ use native.Mathlib.Decide.{ℕ-discrete}
 use native.Mathlib.Omega.{arith}
 use lib.Dec.{T, eqb, leb}
 use lib.IntN.{ℤ, pos, _+ℤ_, _-ℤ_, _*ℤ_}
-use Rattle.laws.specs.Parts.{P, lesser, greater}
+use Rattle.laws.specs.Parts.{P}
 use Rattle.laws.specs.Lists.{listed}
 use Rattle.laws.specs.Sums.{sumTo}
 use Rattle.laws.proofs.Ints.{plus, minus, eq-made, le-read}
@@ -20,17 +20,16 @@ use Rattle.quantity.specs.declared.quantities.BandSet.{BandSet}
 use Rattle.quantity.specs.declared.quantities.Tenths.{Tenths}
 use Rattle.quantity.specs.declared.refusals.Refusal.the-variants.{BandCount, BandRange}
 use Rattle.energy.specs.Energies.{F, u}
-use Rattle.curve.specs.Bands.{accepted, limited}
-use Rattle.laws.specs.Tests.{bit}
+use Rattle.curve.specs.Bands.{bit, accepted, limited}
 use Rattle.curve.specs.Levels.{levelAt, startAt}
-use Rattle.laws.proofs.Ranges.{all-made, all-same, any-same}
+use Rattle.curve.proofs.Walks.{all-made, all-same, any-same}
 use Rattle.curve.proofs.Searched.{count-most, count-some, found}
 use Rattle.rating.specs.declared.kinds.Kind.{Kind}
 use Rattle.rating.specs.declared.sheets.Rated.the-variants.{Rating, Refused}
 use Rattle.rating.specs.declared.sheets.Term.the-variants.{Given}
 use Rattle.rating.specs.Kinds.{airborne, bandsOf, limitOf, referenceOf, C, Ctr}
 use Rattle.rating.specs.Curve.{deficit, total, within, stricterBy, IsPosition, startBy, startOf, shiftedBy, shifted, firstFrom, shiftsOf, positionOf, takenOff, ratingOf}
-use Rattle.rating.specs.Terms.{leastTo, greatestTo, less, weighted, airborneTerm, impactTerm}
+use Rattle.rating.specs.Terms.{lesser, greater, leastTo, greatestTo, less, weighted, airborneTerm, impactTerm}
 use Rattle.rating.specs.Sheets.{firstBy, secondBy, sheetOf, ratedOf, asked}
 use Rattle.rating.specs.Numbers.{entriesOf, startAdd}
 use Rattle.rating.proofs.Facts.{count-of}

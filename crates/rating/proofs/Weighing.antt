@@ -7,7 +7,7 @@ use native.Mathlib.Nat.{le-refl}
 use native.Mathlib.Omega.{arith}
 use lib.IntN.{ℤ, pos, _+ℤ_, _-ℤ_, _*ℤ_}
 use lib.Signed.{leZ}
-use Rattle.laws.specs.Parts.{P, N, lesser, greater}
+use Rattle.laws.specs.Parts.{P, N}
 use Rattle.laws.specs.Sums.{sumTo}
 use Rattle.laws.proofs.Extremes.{greatest-below}
 use Rattle.laws.proofs.Ints.{plus, minus, apart, times-P, times-N, eq-made, le-yes, le-no}
@@ -15,11 +15,11 @@ use Rattle.laws.proofs.Sums.{sum-same}
 use Rattle.energy.specs.Energies.{F, u, levelRule}
 use Rattle.curve.specs.Levels.{minTo, leastOf, energiesOf}
 use Rattle.curve.proofs.Walks.{min-below}
-use Rattle.laws.proofs.Counted.{Up, Down}
+use Rattle.curve.proofs.Counted.{Up, Down}
 use Rattle.rating.specs.declared.kinds.Kind.{Kind}
 use Rattle.rating.specs.Kinds.{bandsOf}
 use Rattle.rating.specs.Curve.{ratingOf}
-use Rattle.rating.specs.Terms.{leastTo, greatestTo, less, weighted, airborneTerm, impactTerm}
+use Rattle.rating.specs.Terms.{lesser, greater, leastTo, greatestTo, less, weighted, airborneTerm, impactTerm}
 use Rattle.rating.specs.Numbers.{ratingBy, termBy, termOf}
 
 pub u-small : (S : ℕ) → u S < 256

@@ -12,6 +12,8 @@ use Rattle.quantity.specs.Answers.Answer.{refused, numbers}
 use Rattle.quantity.specs.declared.quantities.BandSet.{BandSet}
 use Rattle.quantity.specs.declared.quantities.Decibels.{Decibels}
 use Rattle.quantity.specs.declared.refusals.Refusal.the-variants.{BandCount, BandRange}
+use Rattle.quantity.specs.declared.refusals.Outcome.{Outcome}
+use Rattle.quantity.specs.declared.refusals.Outcome.the-variants.{Accepted, Refused as Unfit}
 use Rattle.curve.specs.Bands.{accepted, limited}
 use Rattle.rating.specs.declared.kinds.Kind.{Kind}
 use Rattle.rating.specs.declared.sheets.Term.{Term}
@@ -19,6 +21,8 @@ use Rattle.rating.specs.declared.sheets.Term.the-variants.{Given, Absent
 use Rattle.rating.specs.declared.sheets.Sheet.{Sheet}
 use Rattle.rating.specs.declared.sheets.Rated.{Rated}
 use Rattle.rating.specs.declared.sheets.Rated.the-variants.{Rating, Refused}
+use Rattle.rating.specs.declared.sheets.Alone.{Alone}
+use Rattle.rating.specs.declared.sheets.Alone.the-variants.{Rating as Number, Refused as Denied}
 use Rattle.rating.specs.Kinds.{airborne, bandsOf, C, Ctr}
 use Rattle.rating.specs.Curve.{ratingOf, shiftsOf}
 use Rattle.rating.specs.Terms.{airborneTerm, impactTerm}
@@ -64,6 +68,15 @@ asked false a b = b
 unfoldable pub ratedOf : Kind → BandSet → Rated
 ratedOf k s =
     asked (eqb (s .len) (bandsOf k)) (asked (accepted s (bandsOf k)) (Rating (sheetOf k s)) (Refused BandRange)) (Refused BandCount)
+
+-- whether a set can be rated: the same two tests
+unfoldable pub outcomeOf : Kind → BandSet → Outcome
+outcomeOf k s = elim (eqb (s .len) (bandsOf k)) [ true ↦ elim (accepted s (bandsOf k)) [ true ↦ Accepted | false ↦ Unfit BandRange ] | false ↦ Unfit BandCount ]
+
+-- the rating of an answer alone
+abbrev pub aloneOf : Rated → Alone
+aloneOf (Rating s) = Number (s .rating)
+aloneOf (Refused r) = Denied r
 
 -- in the paper's numbers: rating, first term, second term, whether there is one, shifts, mark; or the refusal
 abbrev pub sheetNumbers : Sheet → List ℤ

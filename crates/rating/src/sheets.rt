@@ -19,6 +19,7 @@ use energy::level_thresholds;
 use energy::scaled_powers;
 use quantity::BandSet;
 use quantity::Decibels;
+use quantity::Outcome;
 use quantity::Refusal;
 use quantity::Tenths;
 use quantity::signed::less;
@@ -26,12 +27,13 @@ ghost use mathlib.Core.Path.{_≡_};
 ghost use mathlib.Core.Bool.{true};
 ghost use Prim.Native.Nat.{ℕ, _<_};
 ghost use Rattle.energy.specs.Energies.{Tables};
-ghost use Rattle.quantity.specs.Quantities.{halfUp};
+ghost use Rattle.quantity.specs.Quantities.{halfUp, bandOf};
 ghost use Rattle.curve.specs.Bands.{accepted};
 ghost use Rattle.curve.specs.Levels.{Entries, Count, at, levelAt};
 ghost use Rattle.rating.specs.Kinds.{bandsOf};
 ghost use Rattle.rating.specs.Numbers.{numbersOf, Sought, WeighedOf, ratingBy, termBy, termOf};
-ghost use Rattle.rating.specs.Sheets.{sheetOf, ratedOf};
+ghost use Rattle.rating.specs.Curve.{ratingOf};
+ghost use Rattle.rating.specs.Sheets.{sheetOf, ratedOf, outcomeOf, aloneOf};
 
 // A spectrum term, where the kind has it.
 pub enum Term {
@@ -52,6 +54,12 @@ pub struct Sheet {
 // A sheet, or the refusal that is given instead.
 pub enum Rated {
     Rating(Sheet),
+    Refused(Refusal),
+}
+
+// The rating of a sheet alone, or the refusal.
+pub enum Alone {
+    Rating(Decibels),
     Refused(Refusal),
 }
 
@@ -210,19 +218,52 @@ pub fn sheet_of(
     }
 }
 
-// Rates a band set: 1 where its length is not the kind's, then 4 where a band is out of range, else its sheet.
-pub fn rate(kind: Kind, set: BandSet) -> Rated
-    ensures { λ r. ⌜ r ≡ ratedOf kind set ⌝ }
+// Whether a set can be rated: 1 where its length is not the kind's, then 4 where a band is out of range.
+fn accept(kind: Kind, set: BandSet) -> Outcome
+    ensures { λ r. ⌜ r ≡ outcomeOf kind set ⌝ }
 {
     let bands = bands_of(kind);
     if set.len != bands {
-        return Rated::Refused(Refusal::BandCount);
+        return Outcome::Refused(Refusal::BandCount);
     }
     if !all_in_range(set, bands) {
-        return Rated::Refused(Refusal::BandRange);
+        return Outcome::Refused(Refusal::BandRange);
     }
-    let powers = scaled_powers();
-    let thresholds = level_thresholds();
-    let starts = level_starts();
-    Rated::Rating(sheet_of(kind, set, &powers, &thresholds, &starts))
+    Outcome::Accepted
+}
+
+// The rating of an accepted set, without its terms.
+fn rating_of(kind: Kind, set: BandSet) -> Decibels
+    requires { ⌜ accepted set (bandsOf kind) ≡ true ⌝ }
+    ensures { λ r. ⌜ r .0 ≡ ratingOf kind (bandOf set) ⌝ }
+{
+    let n = numbers_of(kind);
+    let accepted = sought(kind, set, n);
+    let origin = n.origin;
+    rating_at(accepted.at, n.airborne, origin)
+}
+
+// The rating alone, as `rate` gives it: no table of energies is laid out for it.
+pub fn rate_alone(kind: Kind, set: BandSet) -> Alone
+    ensures { λ r. ⌜ r ≡ aloneOf (ratedOf kind set) ⌝ }
+{
+    match accept(kind, set) {
+        Outcome::Accepted => Alone::Rating(rating_of(kind, set)),
+        Outcome::Refused(refusal) => Alone::Refused(refusal),
+    }
+}
+
+// Rates a band set: its sheet, or the refusal.
+pub fn rate(kind: Kind, set: BandSet) -> Rated
+    ensures { λ r. ⌜ r ≡ ratedOf kind set ⌝ }
+{
+    match accept(kind, set) {
+        Outcome::Refused(refusal) => Rated::Refused(refusal),
+        Outcome::Accepted => {
+            let powers = scaled_powers();
+            let thresholds = level_thresholds();
+            let starts = level_starts();
+            Rated::Rating(sheet_of(kind, set, &powers, &thresholds, &starts))
+        }
+    }
 }

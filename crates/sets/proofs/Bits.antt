@@ -4,23 +4,50 @@ use mathlib.Core.Path.{_≡_, refl, sym, _∙_, ap, ap₂, subst}
 use mathlib.Core.Bool.{Bool, true, false, not, _||_}
 use mathlib.Core.Logic.{_⊎_, inl, inr}
 use Prim.Native.Nat.{ℕ, zero, suc, _+_, _*_, _/_, _%_, _^_, _<_}
-use native.Mathlib.Nat.{le-refl, div-one, pow-succ', div-div-eq-div-mul}
+use native.Mathlib.Nat.{le-refl, div-one, zero-div, div-eq-of-lt, pow-succ', div-div-eq-div-mul}
 use native.Mathlib.Decide.{decLt}
 use native.Mathlib.Omega.{arith}
 use borrow.Author.Tests.{eq-eqb, ne-eqb, eqb-true, eqb-false}
 use lib.Dec.{T, eqb}
 use Rattle.laws.specs.Extremes.{one-if}
-use Rattle.laws.specs.Tests.{bit}
+use Rattle.curve.specs.Bands.{bit}
 
 -- the lowest bit, and a bit above it
-pub bit-low : (m : ℕ) → bit m 0 ≡ eqb (m % 2) 1
+bit-low : (m : ℕ) → bit m 0 ≡ eqb (m % 2) 1
 bit-low m = ap (λ (n : ℕ). eqb (n % 2) 1) (div-one m)
 
-pub next-half : (m i : ℕ) → m / 2 ^ suc i ≡ m / 2 / 2 ^ i
+next-half : (m i : ℕ) → m / 2 ^ suc i ≡ m / 2 / 2 ^ i
 next-half m i = ap (λ (d : ℕ). m / d) (pow-succ' 2 i) ∙ sym (div-div-eq-div-mul m 2 (2 ^ i))
 
 bit-next : (m i : ℕ) → bit m (suc i) ≡ bit (m / 2) i
 bit-next m i = ap (λ (n : ℕ). eqb (n % 2) 1) (next-half m i)
+
+-- zero has no bit, and no number one past its length
+pub zero-bit : (i : ℕ) → bit 0 i ≡ false
+zero-bit i = ne-eqb (0 / 2 ^ i % 2) 1 (λ e. omega (arith, ap (λ (q : ℕ). q % 2) (zero-div (2 ^ i))))
+
+pub bit-past : (m i : ℕ) → m < 2 ^ i → bit m i ≡ false
+bit-past m i h = ap (λ (q : ℕ). eqb (q % 2) 1) (div-eq-of-lt h)
+
+-- a bit put on top of a number: it is there, and the others are as they were
+lower-half : (m i : ℕ) → (m + 2 ^ suc i) / 2 ≡ m / 2 + 2 ^ i
+lower-half m i = omega arith
+
+pub bit-here : (i m : ℕ) → m < 2 ^ i → bit (m + 2 ^ i) i ≡ true
+bit-here zero m h = let one : m + 2 ^ 0 ≡ 1 = omega arith in ap (λ (n : ℕ). bit n 0) one
+bit-here (suc i) m h = bit-next (m + 2 ^ suc i) i ∙ ap (λ (n : ℕ). bit n i) (lower-half m i) ∙ bit-here i (m / 2) (omega arith)
+
+pub bit-other : (i m j : ℕ) → m < 2 ^ i → (j ≡ i → ⊥) → bit (m + 2 ^ i) j ≡ bit m j
+bit-other zero m zero h f = absurd (f refl)
+bit-other zero m (suc j) h f =
+    let same : (m + 2 ^ 0) / 2 ≡ m / 2 = omega arith in
+    bit-next (m + 2 ^ 0) j ∙ ap (λ (n : ℕ). bit n j) same ∙ sym (bit-next m j)
+bit-other (suc i) m zero h f =
+    let same : (m + 2 ^ suc i) % 2 ≡ m % 2 = omega arith in
+    bit-low (m + 2 ^ suc i) ∙ ap (λ (r : ℕ). eqb r 1) same ∙ sym (bit-low m)
+bit-other (suc i) m (suc j) h f =
+    bit-next (m + 2 ^ suc i) j ∙ ap (λ (n : ℕ). bit n j) (lower-half m i)
+    ∙ bit-other i (m / 2) j (omega arith) (λ e. f (ap suc e)) ∙ sym (bit-next m j)
 
 -- the number whose bits below n are those of f
 unfoldable pub pack : (ℕ → Bool) → ℕ → ℕ
@@ -68,7 +95,7 @@ lowest m = go (eqb (m % 2) 1) refl
     go true e = sym (eqb-true (m % 2) 1 e)
     go false e = omega (arith, eqb-false (m % 2) 1 e)
 
-pub pack-of : (n m : ℕ) → m < 2 ^ n → pack (bit m) n ≡ m
+pack-of : (n m : ℕ) → m < 2 ^ n → pack (bit m) n ≡ m
 unfolding pack
 pack-of zero m h = omega arith
 pack-of (suc n) m h =

@@ -1,7 +1,7 @@
 -- The sets of 1 to 3 bands, in order. That each is such a set, that each is before the next, and that the sets of fewer bands are those
 -- below 2 ^ n are computed; that every set is there goes by induction over the bands. Assumes nothing.
 use mathlib.Core.Path.{_≡_, refl, sym, _∙_, ap, subst}
-use mathlib.Core.Bool.{Bool, true, false, cond, _&&_, _||_}
+use mathlib.Core.Bool.{Bool, true, false, cond, _&&_}
 use mathlib.Core.List.{List, _∷_, _++_, map, List·Memᴰ, List·Memᴰ·head, List·Memᴰ·tail, Memᴰ·cast, Memᴰ·append-left, Memᴰ·append-right}
 use Prim.Native.Nat.{ℕ, zero, suc, _+_, _*_, _-_, _/_, _%_, _^_, _≤_, _<_}
 use native.Mathlib.Nat.{add-zero, not-suc-le-zero, pow-suc, div-add-mod', div-div-eq-div-mul, div-eq-of-lt}
@@ -9,19 +9,15 @@ use native.Mathlib.Omega.{arith}
 use borrow.Author.Tests.{eqb-true, eqb-false}
 use lib.Dec.{T, leb, ltb, leb→le, ltb→lt}
 use lib.ListN.{length}
-use Rattle.laws.specs.Tests.{anyTo, bit}
+use Rattle.curve.specs.Bands.{bit}
 use Rattle.rating.specs.declared.kinds.Kind.{Kind}
 use Rattle.rating.specs.declared.kinds.Kind.the-variants.{A3, A1, I3, I1}
 use Rattle.rating.specs.Kinds.{bandsOf}
 use Rattle.sets.specs.Masks.{bandsFrom, bandsIn, size, isMask, earlier, before, choose, masksInOrder, filter}
-use Rattle.laws.proofs.Tests.{and-left, and-right}
+use Rattle.sets.proofs.Tests.{and-left, and-right}
 use Rattle.sets.proofs.Filters.{allIn, risingBy, filter-made}
 
 -- ---- computed: for thirds and for octaves
-pub sets-count : length (masksInOrder 16) ≡ 696
-unfolding masksInOrder choose
-sets-count = refl
-
 pub all-sets : (k : Kind) → T (allIn (isMask (bandsOf k)) (masksInOrder (bandsOf k)))
 unfolding masksInOrder choose allIn isMask size bandsIn bandsFrom
 all-sets A3 = tt
@@ -42,17 +38,6 @@ fewer A3 = refl
 fewer A1 = refl
 fewer I3 = refl
 fewer I1 = refl
-
--- a set that is not below 2 ^ n has a band from n on
-abbrev pub higher : ℕ → ℕ → Bool
-higher n m = ltb m (2 ^ n) || anyTo (λ j. bit m (n + j)) (16 - n)
-
-pub high-bands : (k : Kind) → T (allIn (higher (bandsOf k)) (masksInOrder 16))
-unfolding masksInOrder choose allIn anyTo
-high-bands A3 = tt
-high-bands A1 = tt
-high-bands I3 = tt
-high-bands I1 = tt
 
 -- ---- every set is there
 map-member : (f : ℕ → ℕ) (a : ℕ) (l : List ℕ) → List·Memᴰ a l → List·Memᴰ (f a) (map f l)

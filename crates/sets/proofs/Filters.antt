@@ -1,18 +1,15 @@
--- Lists of numbers and what a filter keeps: its members, its order, its length, and how it grows with the list. Assumes
--- nothing.
-use mathlib.Core.Path.{_≡_, refl, sym, _∙_, ap, subst}
+-- Lists of numbers and what a filter keeps: its members, its order, its length, and of one list after another. Assumes nothing.
+use mathlib.Core.Path.{_≡_, refl, sym, ap, subst}
 use mathlib.Core.Bool.{Bool, true, false, cond, _&&_}
 use mathlib.Core.Logic.{⊎-elim}
-use mathlib.Core.List.{List, [], _∷_, _++_, List·Memᴰ, List·Memᴰ·head, List·Memᴰ·tail, List·Memᴰ·not-nil, List·Memᴰ·cases-cons, append-nil}
+use mathlib.Core.List.{List, [], _∷_, _++_, List·Memᴰ, List·Memᴰ·head, List·Memᴰ·tail, List·Memᴰ·not-nil, List·Memᴰ·cases-cons}
 use Prim.Native.Nat.{ℕ, zero, suc, _+_, _≤_, _<_}
 use native.Mathlib.Nat.{le-refl}
-use native.Mathlib.Numerals.{add-one}
 use native.Mathlib.Omega.{arith}
 use lib.Dec.{T}
-use lib.ListN.{length, getD, take, drop, take-append-drop, length-append}
-use lib.Seq.{take-suc, take-all}
+use lib.ListN.{length, getD}
 use Rattle.sets.specs.Masks.{filter}
-use Rattle.laws.proofs.Tests.{holds, is-true, and-left, and-right, and-both}
+use Rattle.sets.proofs.Tests.{holds, is-true, and-left, and-right, and-both}
 
 -- ---- members
 pub record Kept (ok : ℕ → Bool) (l : List ℕ) (m : ℕ) : Type 0 where
@@ -56,26 +53,12 @@ unfolding allIn
 each-of ok (a ∷ l) m t (List·Memᴰ·head s) = subst (λ (n : ℕ). T (ok n)) (sym s) (and-left (ok a) (allIn ok l) t)
 each-of ok (a ∷ l) m t (List·Memᴰ·tail h) = each-of ok l m (and-right (ok a) (allIn ok l) t) h
 
--- ---- two filters that are one
--- the same test at each member
+-- ---- two filters that are one: the same test at each member
 pub filter-same : (f g : ℕ → Bool) (l : List ℕ) → ((m : ℕ) → List·Memᴰ m l → f m ≡ g m) → filter f l ≡ filter g l
 unfolding filter
 filter-same f g [] h = refl
 filter-same f g (a ∷ l) h =
     rw (h a (List·Memᴰ·head refl), filter-same f g l (λ m q. h m (List·Memᴰ·tail q)))
-
--- a filter over one that keeps all that it keeps
-pub filter-twice : (f g : ℕ → Bool) (l : List ℕ) → ((m : ℕ) → List·Memᴰ m l → T (f m) → T (g m)) → filter f l ≡ filter f (filter g l)
-unfolding filter
-filter-twice f g [] h = refl
-filter-twice f g (a ∷ l) h = go (f a) refl (g a) refl (filter-twice f g l (λ m q. h m (List·Memᴰ·tail q)))
-  where
-    go : (b : Bool) → f a ≡ b → (d : Bool) → g a ≡ d → filter f l ≡ filter f (filter g l)
-        → cond b (a ∷ filter f l) (filter f l) ≡ filter f (cond d (a ∷ filter g l) (filter g l))
-    go true e true s q = rw (e, q)
-    go false e true s q = rw (e, q)
-    go false e false s q = q
-    go true e false s q = absurd (subst T s (h a (List·Memᴰ·head refl) (holds e)))
 
 pub filter-length : (ok : ℕ → Bool) (l : List ℕ) → length (filter ok l) ≤ length l
 unfolding filter
@@ -128,8 +111,8 @@ module _ (before : ℕ → ℕ → Bool) (chain : (a b c : ℕ) → T (before a 
   in-order r (a ∷ l) t (suc i) (suc j) h k =
       in-order a l (and-right (before r a) (rising a l) t) i j (omega arith) (omega arith)
 
--- ---- as a loop goes along the list
-filter-append : (ok : ℕ → Bool) (l r : List ℕ) → filter ok (l ++ r) ≡ filter ok l ++ filter ok r
+-- ---- one list after another
+pub filter-append : (ok : ℕ → Bool) (l r : List ℕ) → filter ok (l ++ r) ≡ filter ok l ++ filter ok r
 unfolding filter
 filter-append ok [] r = refl
 filter-append ok (a ∷ l) r = go (ok a) (filter-append ok l r)
@@ -138,34 +121,3 @@ filter-append ok (a ∷ l) r = go (ok a) (filter-append ok l r)
         → cond b (a ∷ filter ok (l ++ r)) (filter ok (l ++ r)) ≡ cond b (a ∷ filter ok l) (filter ok l) ++ filter ok r
     go true e = ap (λ (s : List ℕ). a ∷ s) e
     go false e = e
-
--- what is kept of the first i
-abbrev pub keptTo : (ℕ → Bool) → List ℕ → ℕ → List ℕ
-keptTo ok l i = filter ok (take i l)
-
-kept-more : (ok : ℕ → Bool) (l : List ℕ) (i : ℕ) → i < length l → keptTo ok l (i + 1) ≡ keptTo ok l i ++ filter ok (getD l i 0 ∷ [])
-kept-more ok l i h =
-    ap (keptTo ok l) (add-one i) ∙ ap (filter ok) (take-suc l i 0 h) ∙ filter-append ok (take i l) (getD l i 0 ∷ [])
-
-pub kept-one : (ok : ℕ → Bool) (l : List ℕ) (i : ℕ) → i < length l → ok (getD l i 0) ≡ true
-    → keptTo ok l (i + 1) ≡ keptTo ok l i ++ (getD l i 0 ∷ [])
-unfolding filter
-kept-one ok l i h e =
-    kept-more ok l i h ∙ ap (λ (b : Bool). keptTo ok l i ++ cond b (getD l i 0 ∷ []) []) e
-
-pub kept-none : (ok : ℕ → Bool) (l : List ℕ) (i : ℕ) → i < length l → ok (getD l i 0) ≡ false → keptTo ok l (i + 1) ≡ keptTo ok l i
-unfolding filter
-kept-none ok l i h e =
-    kept-more ok l i h ∙ ap (λ (b : Bool). keptTo ok l i ++ cond b (getD l i 0 ∷ []) []) e ∙ append-nil (keptTo ok l i)
-
-pub kept-all : (ok : ℕ → Bool) (l : List ℕ) (i : ℕ) → length l ≤ i → keptTo ok l i ≡ filter ok l
-kept-all ok l i h = ap (filter ok) (take-all i l h)
-
--- no more than in the end
-pub kept-within : (ok : ℕ → Bool) (l : List ℕ) (i : ℕ) → length (keptTo ok l i) ≤ length (filter ok l)
-kept-within ok l i =
-    omega (
-      arith,
-      ap length (ap (filter ok) (sym (take-append-drop i l)) ∙ filter-append ok (take i l) (drop i l)),
-      length-append (filter ok (take i l)) (filter ok (drop i l)),
-    )

@@ -4,6 +4,6 @@ pub mod Bits
 pub mod Filters
 pub mod Order
 pub mod Enumeration
-pub mod Trial
 pub mod Counting
 pub mod Minimal
+pub mod Joining

@@ -4,23 +4,22 @@
 use mathlib.Core.Path.{_≡_, refl, sym, _∙_, ap, subst}
 use mathlib.Core.Bool.{Bool, true, false, not, cond, _&&_, _||_}
 use mathlib.Core.Logic.{_⊎_, inl, inr, ⊎-elim}
-use Prim.Native.Nat.{ℕ, zero, suc, _+_, _/_, _%_, _^_, _≤_, _<_, min}
-use native.Mathlib.Nat.{le-refl, le-of-eq, not-le-of-lt, lt-of-not-le, zero-div}
+use Prim.Native.Nat.{ℕ, zero, suc, _+_, _≤_, _<_, min}
+use native.Mathlib.Nat.{le-refl, le-of-eq, not-le-of-lt, lt-of-not-le}
 use native.Mathlib.Decide.{decLt, decLe, ℕ-discrete as decEq}
 use native.Mathlib.Omega.{arith}
 use borrow.Author.Tests.{eq-eqb, ne-eqb}
 use lib.Dec.{T, eqb, leb, ltb, leb→le, le→leb, ltb→lt, lt→ltb, eqb→eq, T-not, not-T}
 use Rattle.laws.specs.Sums.{sumTo}
 use Rattle.laws.proofs.Sums.{sum-same, sum-mono, sum-const}
-use Rattle.laws.specs.Tests.{allTo, bit}
+use Rattle.curve.specs.Bands.{allTo, bit}
 use Rattle.sets.specs.Masks.{part, smaller}
 use Rattle.sets.specs.Gains.{gainsOf, leastOf, listedBy}
-use Rattle.laws.proofs.Tests.{holds, is-false, one-test, and-left, and-right, and-both}
-use Rattle.laws.proofs.Ranges.{all-read, all-hold}
-use Rattle.sets.proofs.Bits.{pack, pack-bit, pack-below, same-bits, Apart, parted}
+use Rattle.sets.proofs.Tests.{holds, one-test, and-left, and-right, and-both, all-read, all-made}
+use Rattle.sets.proofs.Bits.{zero-bit, pack, pack-bit, pack-below, same-bits, Apart, parted}
 
 -- two sums that differ at one place only
-sum-but-one : (f h : ℕ → ℕ) (d e b n : ℕ) → b < n → f b + d ≤ h b + e → ((i : ℕ) → i < n → (i ≡ b → ⊥) → f i ≤ h i)
+pub sum-but-one : (f h : ℕ → ℕ) (d e b n : ℕ) → b < n → f b + d ≤ h b + e → ((i : ℕ) → i < n → (i ≡ b → ⊥) → f i ≤ h i)
     → sumTo f n + d ≤ sumTo h n + e
 unfolding sumTo
 sum-but-one f h d e b zero p q r = absurd (omega arith)
@@ -33,13 +32,13 @@ sum-but-one f h d e b (suc n) p q r = go (λ s. sum-but-one f h d e b n s q (λ 
         omega (arith, ap f t, ap h t, sum-mono f h n (λ i u. r i (omega arith) (λ v. omega arith)))
 
 -- the gain of band i where it is in the set
-abbrev share : (ℕ → ℕ) → ℕ → ℕ → ℕ
+abbrev pub share : (ℕ → ℕ) → ℕ → ℕ → ℕ
 share g m i = cond (bit m i) (g i) 0
 
-with-band : (g : ℕ → ℕ) (m i : ℕ) → bit m i ≡ true → share g m i ≡ g i
+pub with-band : (g : ℕ → ℕ) (m i : ℕ) → bit m i ≡ true → share g m i ≡ g i
 with-band g m i e = ap (λ (b : Bool). cond b (g i) 0) e
 
-no-band : (g : ℕ → ℕ) (m i : ℕ) → bit m i ≡ false → share g m i ≡ 0
+pub no-band : (g : ℕ → ℕ) (m i : ℕ) → bit m i ≡ false → share g m i ≡ 0
 no-band g m i e = ap (λ (b : Bool). cond b (g i) 0) e
 
 -- a part shares no more
@@ -101,9 +100,6 @@ least-reached g m (suc n) = go (least-reached g m n) (bit m n) refl (decLe (leas
     })
 
 -- ---- a set without one of its bands
-zero-bit : (i : ℕ) → bit 0 i ≡ false
-zero-bit i = ne-eqb (0 / 2 ^ i % 2) 1 (λ e. omega (arith, ap (λ (q : ℕ). q % 2) (zero-div (2 ^ i))))
-
 abbrev leave : ℕ → ℕ → ℕ → Bool
 leave m b i = bit m i && not (eqb i b)
 
@@ -132,7 +128,7 @@ rest-other m b i h f = pack-bit (leave m b) 16 i h ∙ ap (λ (e : Bool). bit m 
 
 rest-part : (m b : ℕ) → T (part (rest m b) m)
 unfolding part rest
-rest-part m b = all-hold (λ i. not (bit (rest m b) i) || bit m i) 16
+rest-part m b = all-made (λ i. not (bit (rest m b) i) || bit m i) 16
     (λ i h. subst (λ (d : Bool). T (not d || bit m i)) (sym (pack-bit (leave m b) 16 i h)) (kept (bit m i) (not (eqb i b))))
   where
     kept : (d e : Bool) → T (not (d && e) || d)
@@ -170,7 +166,7 @@ part-gains g p m b t h d e =
           (λ i q f. part-share g p m i (all-read (λ j. not (bit p j) || bit m j) 16 t i q)),
     )
 
-no-gains : (g : ℕ → ℕ) → gainsOf g 0 16 ≡ 0
+pub no-gains : (g : ℕ → ℕ) → gainsOf g 0 16 ≡ 0
 unfolding gainsOf
 no-gains g = sum-same (share g 0) (λ i. 0) 16 (λ i h. no-band g 0 i (zero-bit i)) ∙ sum-const 0 16
 
@@ -213,7 +209,7 @@ module _ (g : ℕ → ℕ) (need m : ℕ) (some : 0 < need) (small : (i : ℕ) �
 
   forth : T (listedBy g need m) → T least-set
   unfolding listedBy
-  forth t = all-hold (λ p. not (smaller p m && reach p)) 65536 (λ p h. not-T (smaller p m && reach p) (fails p h))
+  forth t = all-made (λ p. not (smaller p m && reach p)) 65536 (λ p h. not-T (smaller p m && reach p) (fails p h))
     where
       near : gainsOf g m 16 < need + leastOf g m 16
       near = ltb→lt (gainsOf g m 16) (need + leastOf g m 16)
@@ -253,12 +249,3 @@ module _ (g : ℕ → ℕ) (need m : ℕ) (some : 0 < need) (small : (i : ℕ) �
       (λ t. and-both (reach m) (ltb (gainsOf g m 16) (need + leastOf g m 16)) (and-left (reach m) least-set t)
       (lt→ltb (gainsOf g m 16) (need + leastOf g m 16) (back (and-right (reach m) least-set t))))
       (λ t. and-both (reach m) least-set (and-left (reach m) (ltb (gainsOf g m 16) (need + leastOf g m 16)) t) (forth t))
-
--- a set with a band that gains nothing is not listed
-pub idle-band : (g : ℕ → ℕ) (need m b : ℕ) → b < 16 → bit m b ≡ true → g b ≡ 0 → listedBy g need m ≡ false
-unfolding listedBy
-idle-band g need m b h e z = is-false (listedBy g need m) (λ t.
-    let s : T (leb need (gainsOf g m 16)) = and-left (leb need (gainsOf g m 16)) (ltb (gainsOf g m 16) (need + leastOf g m 16)) t in
-    let u : T (ltb (gainsOf g m 16) (need + leastOf g m 16)) = and-right (leb need (gainsOf g m 16)) (ltb (gainsOf g m 16) (need + leastOf g m 16)) t in
-    not-le-of-lt (ltb→lt (gainsOf g m 16) (need + leastOf g m 16) u)
-    (omega (arith, least-below g m 16 b h e, leb→le need (gainsOf g m 16) s)))

@@ -1,12 +1,10 @@
 -- Tests that are booleans, as facts and back: of both, of all below a number, and two tests that are one. Assumes nothing.
-use mathlib.Core.Path.{_≡_, refl, sym, _∙_, ap, subst}
-use mathlib.Core.Bool.{Bool, true, false, _&&_, _||_}
-use Prim.Native.Nat.{ℕ, zero, suc, _<_}
-use native.Mathlib.Nat.{le-refl}
-use native.Mathlib.Omega.{arith}
+use mathlib.Core.Path.{_≡_, refl, sym, subst}
+use mathlib.Core.Bool.{Bool, true, false, _&&_}
+use Prim.Native.Nat.{ℕ, _<_}
 use lib.Dec.{T}
-use Rattle.laws.specs.Tests.{allTo, anyTo}
-use Rattle.laws.proofs.Ranges.{all-at, all-made as all-hold}
+use Rattle.curve.specs.Bands.{allTo}
+use Rattle.curve.proofs.Walks.{all-at, all-made as all-hold}
 
 pub holds : {b : Bool} → b ≡ true → T b
 holds e = subst T (sym e) tt
@@ -47,22 +45,3 @@ all-same f g n h =
     one-test (allTo f n) (allTo g n)
     (λ t. all-made g n (λ i p. subst T (h i p) (all-read f n t i p)))
     (λ t. all-made f n (λ i p. subst T (sym (h i p)) (all-read g n t i p)))
-
--- a place that passes
-pub record Passing (ok : ℕ → Bool) (n : ℕ) : Type 0 where
-  pub place : ℕ
-  pub below : place < n
-  pub passes : T (ok place)
-
-pub any-read : (ok : ℕ → Bool) (n : ℕ) → T (anyTo ok n) → Passing ok n
-unfolding anyTo
-any-read ok zero t = absurd t
-any-read ok (suc n) t = go (λ s. any-read ok n s) (anyTo ok n) refl (ok n) refl
-  where
-    wider : Passing ok n → Passing ok (suc n)
-    wider q = record { place = q .place; below = omega (arith, q .below); passes = q .passes }
-
-    go : (T (anyTo ok n) → Passing ok n) → (a : Bool) → anyTo ok n ≡ a → (b : Bool) → ok n ≡ b → Passing ok (suc n)
-    go before true e b d = wider (before (holds e))
-    go before false e true d = record { place = n; below = le-refl (suc n); passes = holds d }
-    go before false e false d = absurd (subst T (ap (λ (a : Bool). a || ok n) e ∙ ap (λ (b : Bool). false || b) d) t)

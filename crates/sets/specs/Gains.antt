@@ -2,20 +2,20 @@
 -- Nothing here is part of what a caller must believe: the proofs of crate `lift` show that it says the same as the definitions
 -- of its `Reach`.
 use mathlib.Core.Bool.{Bool, true, false, cond, _&&_}
-use mathlib.Core.List.{List}
+use mathlib.Core.List.{List, map}
 use mathlib.Core.Path.{_≡_}
-use Prim.Native.Nat.{ℕ, zero, suc, _+_, _*_, _-_, _≤_, _<_, min}
+use Prim.Native.Nat.{ℕ, zero, suc, _+_, _*_, _-_, _^_, _≤_, _<_, min}
 use lib.Dec.{leb, ltb}
 use lib.IntN.{ℤ, _+ℤ_}
 use Rattle.laws.specs.Parts.{P, N}
 use Rattle.laws.specs.Sums.{sumTo}
 use Rattle.quantity.specs.declared.quantities.BandSet.{BandSet}
-use Rattle.laws.specs.Tests.{bit}
+use Rattle.curve.specs.Bands.{bit}
 use Rattle.curve.specs.Levels.{at, levelBy, levelAt, totalAt}
 use Rattle.rating.specs.declared.kinds.Kind.{Kind}
 use Rattle.rating.specs.Kinds.{airborne, referenceOf}
 use Rattle.rating.specs.Curve.{deficit, takenOff}
-use Rattle.sets.specs.Masks.{masksInOrder, filter}
+use Rattle.sets.specs.Masks.{choose, masksInOrder, filter}
 use Rattle.sets.specs.Highest.{highest}
 
 -- the curve position that rates the target
@@ -42,9 +42,25 @@ leastOf g m (suc n) = cond (bit m n) (min (leastOf g m n) (g n)) (leastOf g m n)
 unfoldable pub listedBy : (ℕ → ℕ) → ℕ → ℕ → Bool
 listedBy g need m = leb need (gainsOf g m 16) && ltb (gainsOf g m 16) (need + leastOf g m 16)
 
--- the list, by gains
-unfoldable pub byGains : List ℕ → ℕ → List ℕ
-byGains gains need = filter (listedBy (at gains) need) (masksInOrder 16)
+-- the list of n bands, by gains
+unfoldable pub byGains : (ℕ → ℕ) → ℕ → ℕ → List ℕ
+byGains g need n = filter (listedBy g need) (masksInOrder n)
+
+-- the listed sets that are a set of lower bands and so many more of the n bands, from band i on
+unfoldable pub joinedBy : (ℕ → ℕ) → ℕ → ℕ → ℕ → ℕ → ℕ → List ℕ
+joinedBy g need n more m i = filter (listedBy g need) (map (λ (r : ℕ). m + r) (choose more (n - i) i))
+
+-- a set of bands below band i, the sum of their gains and the least of them
+pub record PartOf (g : ℕ → ℕ) (m sum least i : ℕ) : Type 0 where
+  pub lower : m < 2 ^ i
+  pub summed : sum ≡ gainsOf g m 16
+  pub smallest : least ≡ leastOf g m 16
+
+-- the gains and the need of at most 16 bands, and how large they are
+pub record Bounded (gains : List ℕ) (n need : ℕ) : Type 0 where
+  pub bands : n ≤ 16
+  pub needed : need < 1000000
+  pub small : (i : ℕ) → at gains i < 10000
 
 -- what a step from a signed number to a natural asks
 abbrev pub Countable : Bool → ℤ → ℕ → Type 0

@@ -1,118 +1,126 @@
--- `lift::lists::fill` meets its contract. The invariant: what is listed of the sets passed stands in front, and the rest of the
--- buffer is as it was. The whole list has room, so one more of it has. Assumes nothing.
-use mathlib.Core.Path.{_≡_, sym, _∙_, ap, subst}
-use mathlib.Core.Bool.{Bool, true, false}
-use mathlib.Core.Logic.{⊎-elim}
-use Prim.Native.Nat.{ℕ, _+_, _-_, _≤_, _<_}
+-- `lift::lists::fill` meets its contract. The invariant: the listed sets of at most `more` bands are written; those of one band
+-- more are the next piece of the list. Assumes nothing.
+use mathlib.Core.List.{List, [], _++_}
+use mathlib.Core.Path.{subst}
+use Prim.Native.Nat.{ℕ, _+_, _-_, _≤_}
 use native.Mathlib.Omega.{arith}
-use lib.ListN.{length, getD, set}
+use borrow.Author.Needs.{needs}
+use lib.ListN.{length}
+use Rattle.laws.proofs.Fronts.{Writing, none-written, all-written, piece-room, out-length, lent-within, lent-room, piece-written}
 use Rattle.curve.specs.Levels.{at}
-use Rattle.sets.specs.Masks.{masksInOrder, filter}
-use Rattle.sets.specs.Gains.{listedBy, byGains}
-use Rattle.sets.proofs.Enumeration.{sets-count}
-use Rattle.lift.proofs.Filling.{Filled, filled-none, filled-length, filled-room, filled-one, filled-skip, filled-all}
+use Rattle.sets.specs.Gains.{byGains, joinedBy}
+use Rattle.sets.proofs.Joining.{no-part, larger, larger-all, larger-step, larger-end}
 use Rattle.lift.proofs.lists.fill.Statement.{statement}
 use Rattle.lift.proofs.lists.fill.Tie as tie
 
 abbrev Inv-loop : tie.InvT-loop
-Inv-loop gains need out₀ count₀ i₀ out count i =
-    (i ≤ 696) × Filled (listedBy (at gains) need) (masksInOrder 16) out₀ i count out
+Inv-loop gains bands need out₀ none count₀ more₀ out count more =
+    Writing (byGains (at gains) need bands) (larger (at gains) need bands more) out₀ count out
 
 abbrev μ-loop : tie.MeasureT-loop
-μ-loop gains need out₀ count₀ i₀ out count i = 696 - i
+μ-loop gains bands need out₀ none count₀ more₀ out count more = 3 - more
 
--- the test of the sets, the filled buffer, the room and the next place, where a set has been tried
-abbrev ok : tie.Start Inv-loop μ-loop → ℕ → Bool
-ok c = listedBy (at (c .args .gains)) (c .args .need)
+-- the whole list, and its sets of more than so many bands
+abbrev start : tie.At-loop Inv-loop μ-loop → tie.Start Inv-loop μ-loop
+start c = c .before .before
 
-next : (c : tie.After-listed Inv-loop μ-loop) → c .before .before .before .loop .i < length (masksInOrder 16)
-next c = omega (arith, sets-count, c .before .before .loop-test .taken)
+abbrev whole : tie.Start Inv-loop μ-loop → List ℕ
+whole s = byGains (at (s .args .gains .now)) (s .args .need) (s .args .bands)
 
-tried : (c : tie.After-listed Inv-loop μ-loop) (b : Bool) → c .listed .result ≡ b
-    → ok (c .before .before .before .before .before) (getD (masksInOrder 16) (c .before .before .before .loop .i) 0) ≡ b
-tried c b e = ap (ok (c .before .before .before .before .before)) (sym (c .before .mask-at .ensures)) ∙ sym (c .listed .ensures) ∙ e
+abbrev after : tie.Start Inv-loop μ-loop → ℕ → List ℕ
+after s more = larger (at (s .args .gains .now)) (s .args .need) (s .args .bands) more
 
-room : (c : tie.Start Inv-loop μ-loop) → length (filter (ok c) (masksInOrder 16)) ≤ length (c .args .out .now)
-unfolding byGains
-room c = c .pre .1 .1
+abbrev But : tie.At-loop Inv-loop μ-loop → List ℕ → Type 0
+But c rest = Writing (whole (start c)) rest (start c .args .out .now) (c .loop .count) (c .loop .out)
+
+-- those of one band more come next, and there is room for them
+abbrev piece : tie.At-loop Inv-loop μ-loop → List ℕ
+piece c = let s = start c in joinedBy (at (s .args .gains .now)) (s .args .need) (s .args .bands) (c .loop .more + 1) 0 0
+
+next : (c : tie.In-loop Inv-loop μ-loop) → let l = c .before in But l (piece l ++ after (start l) (l .loop .more + 1))
+next c =
+    let l = c .before in
+    let s = start l in
+    subst (But l) (larger-step (at (s .args .gains .now)) (s .args .need) (s .args .bands) (l .loop .more) (c .loop-test .taken)) (l .loop .inv)
+
+room : (c : tie.In-loop Inv-loop μ-loop) → c .before .loop .count + length (piece (c .before)) ≤ length (start (c .before) .args .out .now)
+room c =
+    let l = c .before in
+    let s = start l in
+    piece-room (whole s) (piece l) (after s (l .loop .more + 1)) (s .args .out .now) (l .loop .count) (l .loop .out) (s .pre .1) (next c)
+
+within : (c : tie.In-loop Inv-loop μ-loop) → c .before .loop .count ≤ length (c .before .loop .out)
+within c =
+    let l = c .before in
+    let s = start l in
+    lent-within (whole s) (piece l) (after s (l .loop .more + 1)) (s .args .out .now) (l .loop .count) (l .loop .out) (s .pre .1) (next c)
 
 loop-holds : tie.Need-loop-holds Inv-loop μ-loop
-loop-holds c = (omega arith, filled-none (listedBy (at (c .before .args .gains)) (c .before .args .need)) (masksInOrder 16) (c .before .args .out .now))
+loop-holds c =
+    let s = c .before in
+    subst (λ (r : List ℕ). Writing (whole s) r (s .args .out .now) 0 (s .args .out .now))
+    (larger-all (at (s .args .gains .now)) (s .args .need) (s .args .bands)) (none-written (whole s) (s .args .out .now))
 
-mask-at-requires : tie.Need-mask-at-requires Inv-loop μ-loop
-mask-at-requires c κs = c .loop-test .taken
+mul-put-sets : tie.Need-mul-put-sets Inv-loop μ-loop
+mul-put-sets c = omega (arith, start (c .before) .good, room c)
 
-listed-requires : tie.Need-listed-requires Inv-loop μ-loop
-listed-requires c κs = (c .before .before .before .before .pre .0, c .before .before .before .before .pre .1 .0)
+sub-put-sets : tie.Need-sub-put-sets Inv-loop μ-loop
+sub-put-sets c = within c
 
-mul-out : tie.Need-mul-out Inv-loop μ-loop
-mul-out c =
-    let l = c .before .before .before .before .loop in
-    let s = c .before .before .before .before .before .before in
-    omega (
-      arith,
-      s .good,
-      filled-room (ok s) (masksInOrder 16) (s .args .out .now) (l .i) (l .count) (l .out) (room s) (l .inv .1) (next (c .before)) (tried (c .before) true (c .if1 .taken)),
-    )
+part-put-sets-start : tie.Need-part-put-sets-start Inv-loop μ-loop
+part-put-sets-start c = within c
 
-slice-write-out : tie.Need-slice-write-out Inv-loop μ-loop
-slice-write-out c =
-    let l = c .before .before .before .before .loop in
-    let s = c .before .before .before .before .before .before in
-    omega (
-      arith,
-      filled-length (ok s) (masksInOrder 16) (s .args .out .now) (l .i) (l .count) (l .out) (room s) (l .inv .1),
-      filled-room (ok s) (masksInOrder 16) (s .args .out .now) (l .i) (l .count) (l .out) (room s) (l .inv .1) (next (c .before)) (tried (c .before) true (c .if1 .taken)),
+part-put-sets-end : tie.Need-part-put-sets-end Inv-loop μ-loop
+part-put-sets-end c = search needs
+
+put-sets-requires : tie.Need-put-sets-requires Inv-loop μ-loop
+put-sets-requires c κs =
+    let b = c .before in
+    let l = b .before in
+    let s = start l in (
+      b .loop-test .taken,
+      (
+        no-part (at (s .args .gains .now)),
+        (
+          s .pre .0,
+          lent-room (whole s) (piece l) (after s (l .loop .more + 1)) (s .args .out .now) (l .loop .count) (l .loop .out) (s .pre .1) (next b),
+        ),
+      ),
     )
 
 add-count : tie.Need-add-count Inv-loop μ-loop
 add-count c =
-    let l = c .before .before .before .before .loop in
-    let s = c .before .before .before .before .before .before in
-    omega (
-      arith,
-      s .good,
-      filled-room (ok s) (masksInOrder 16) (s .args .out .now) (l .i) (l .count) (l .out) (room s) (l .inv .1) (next (c .before)) (tried (c .before) true (c .if1 .taken)),
-    )
+    let p = c .before .before in
+    let b = p .before .before in
+    omega (arith, start (b .before) .good, room b, p .put-sets .ensures .0)
 
-add-i : tie.Need-add-i Inv-loop μ-loop
-add-i c = omega arith
+add-more : tie.Need-add-more Inv-loop μ-loop
+add-more c = omega arith
 
 loop-less : tie.Need-loop-less Inv-loop μ-loop
 loop-less c = omega arith
 
 loop-again : tie.Need-loop-again Inv-loop μ-loop
 loop-again c =
-    let l = c .before .before .before .before .loop in
-    let s = c .before .before .before .before .before .before in
-    ⊎-elim
-    (λ w. (
-      omega arith,
-      subst (λ (n : ℕ). Filled (ok s) (masksInOrder 16) (s .args .out .now) (l .i + 1) n (c .if1 .out)) (sym (w .2))
-          (subst (Filled (ok s) (masksInOrder 16) (s .args .out .now) (l .i + 1) (l .count + 1))
-          (ap (set (l .out) (l .count)) (sym (c .before .before .mask-at .ensures)) ∙ sym (w .1))
-          (filled-one (ok s) (masksInOrder 16) (s .args .out .now) (l .i) (l .count) (l .out) (room s) (l .inv .1) (next (c .before)) (tried (c .before) true (w .0 .taken)))),
-    ))
-    (λ w. (
-      omega arith,
-      subst (λ (n : ℕ). Filled (ok s) (masksInOrder 16) (s .args .out .now) (l .i + 1) n (c .if1 .out)) (sym (w .2))
-          (subst (Filled (ok s) (masksInOrder 16) (s .args .out .now) (l .i + 1) (l .count)) (sym (w .1))
-          (filled-skip (ok s) (masksInOrder 16) (s .args .out .now) (l .i) (l .count) (l .out) (room s) (l .inv .1) (next (c .before)) (tried (c .before) false (w .0 .left)))),
-    ))
-    (c .if1 .came)
+    let p = c .before .before in
+    let b = p .before .before in
+    let l = b .before in
+    let s = start l in
+    piece-written (whole s) (piece l) (after s (l .loop .more + 1)) (s .args .out .now) (l .loop .count) (l .loop .out) (s .pre .1) (next b)
+    (p .put-sets .result) _ (p .put-sets .ensures .0) (p .put-sets .ensures .1)
 
 same-length : tie.Need-same-length Inv-loop μ-loop
 same-length c =
-    let l = c .before .loop in
-    let s = c .before .before .before in
-    filled-length (ok s) (masksInOrder 16) (s .args .out .now) (l .i) (l .count) (l .out) (room s) (l .inv .1)
+    let l = c .before in
+    let s = start l in
+    out-length (whole s) [] (after s (l .loop .more)) (s .args .out .now) (l .loop .count) (l .loop .out) (s .pre .1) (l .loop .inv)
 
 returns : tie.Need-returns Inv-loop μ-loop
-unfolding byGains
 returns c =
-    let l = c .before .loop in
-    let s = c .before .before .before in
-    filled-all (ok s) (masksInOrder 16) (s .args .out .now) (l .i) (l .count) (l .out) (room s) (l .inv .1) (omega (arith, sets-count, c .loop-test .left))
+    let l = c .before in
+    let s = start l in
+    all-written (whole s) (s .args .out .now) (l .loop .count) (l .loop .out)
+    (subst (But l) (larger-end (at (s .args .gains .now)) (s .args .need) (s .args .bands) (l .loop .more) (c .loop-test .left)) (l .loop .inv))
 
 pub fill-spec : {M : Type 1} → statement M
 fill-spec =
@@ -121,12 +129,13 @@ fill-spec =
     Inv-loop
     μ-loop
     loop-holds
-    mask-at-requires
-    listed-requires
-    mul-out
-    slice-write-out
+    mul-put-sets
+    sub-put-sets
+    part-put-sets-start
+    part-put-sets-end
+    put-sets-requires
     add-count
-    add-i
+    add-more
     loop-less
     loop-again
     same-length

@@ -13,7 +13,7 @@ use Rattle.lift.proofs.lists.list.Tie as tie
 -- what the gains at the position give
 done : (c : tie.After-gains-at) → let a = c .before .before .before .before .before .before .args in
     let n = c .before .before .before .before .numbers-of .result in
-    Worked (a .kind) (a .set) (a .target .0) (c .gains-at .result .each) (c .gains-at .result .total) (n .limit) (length (a .out .now))
+    Worked (a .kind) (a .set) (a .target .0) (c .gains-at .result .each) (c .gains-at .result .total) (length (a .out .now)) n
 done c =
     let s = c .before .before .before .before .before .before in
     let m = c .before .before .before .before .numbers-of in
@@ -38,22 +38,23 @@ gains-at-requires c κs =
     (c .before .position-at .result .0) (c .before .position-at .ensures)
 
 sub-fill : tie.Need-sub-fill
-sub-fill c = done (c .before .before .before) .over
+sub-fill c = done (c .before .before .before .before) .over
 
 fill-requires : tie.Need-fill-requires
 fill-requires c κs =
-    let d = done (c .before .before .before .before) in
-    (d .need, (d .small, d .fits))
+    let d = done (c .before .before .before .before .before) in
+    (d .bounded, d .fits)
 
 same-length : tie.Need-same-length
 same-length c = search needs
 
 returns : tie.Need-returns
 returns c =
-    let a = c .before .before .before .before .before .before .before .before .before .before .before .before .before .args in
-    let d = done (c .before .before .before .before .before .before .before) in (
-      c .before .before .fill .ensures .0 ∙ ap length (d .list),
-      c .before .before .fill .ensures .1 ∙ ap (λ (l : List ℕ). front l (a .out .now)) (d .list),
+    let f = c .before .before in
+    let g = f .before .before .before .before .before .before in
+    let a = g .before .before .before .before .before .before .args in (
+      f .fill .ensures .0 ∙ ap length (done g .list),
+      f .fill .ensures .1 ∙ ap (λ (l : List ℕ). front l (a .out .now)) (done g .list),
     )
 
 pub list-spec : {M : Type 1} → statement M

@@ -1,35 +1,24 @@
--- `rating::sheets::rate` meets its contract: the length is tested first, then the bands. Assumes nothing.
+-- `rating::sheets::rate` meets its contract: the refusal, or the sheet, with the tables laid out for it. Assumes nothing.
+use mathlib.Core.Path.{_≡_, sym, _∙_}
 use borrow.Author.Needs.{needs}
-use mathlib.Core.Path.{sym, _∙_, ap}
-use borrow.Author.Tests.{not-true, not-false}
-use Rattle.curve.specs.Bands.{accepted}
-use Rattle.curve.proofs.Searched.{count-most}
-use Rattle.rating.proofs.Facts.{count-of}
-use Rattle.rating.proofs.Rated.{wrong-count, out-of-range, in-order}
+use Rattle.quantity.specs.declared.refusals.Outcome.the-variants.{Accepted}
+use Rattle.rating.specs.Sheets.{outcomeOf}
+use Rattle.rating.proofs.Rated.{fit-accepted, fit-rated, unfit-rated}
 use Rattle.rating.proofs.sheets.rate.Statement.{statement}
 use Rattle.rating.proofs.sheets.rate.Tie as tie
 
-bands-of-requires : tie.Need-bands-of-requires
-bands-of-requires c κs = search needs
+-- the set can be rated
+fit : (c : tie.After-enum-told) → let a = c .before .before .before .args in Accepted ≡ outcomeOf (a .kind) (a .set)
+fit c = sym (c .enum-told .given .1) ∙ c .before .before .accept .ensures
 
-returns : tie.Need-returns
-returns c =
-    let b = c .before .before in
-    let k = b .before .args .kind in
-    wrong-count k (b .before .args .set) (b .bands-of .result) (b .bands-of .ensures) (c .if1 .taken)
+accept-requires : tie.Need-accept-requires
+accept-requires c κs = search needs
 
-all-in-range-requires : tie.Need-all-in-range-requires
-all-in-range-requires c κs =
-    let b = c .before .before in
-    let k = b .before .args .kind in
-    rw (b .bands-of .ensures) (count-most (count-of k))
+enum-known-refusal : tie.Need-enum-known-refusal
+enum-known-refusal c = search needs
 
-returns-2 : tie.Need-returns-2
-returns-2 c =
-    let b = c .before .before .before .before in
-    let k = b .before .args .kind in
-    out-of-range k (b .before .args .set) (b .bands-of .result) (b .bands-of .ensures)
-    (c .before .before .if1 .left) (sym (c .before .all-in-range .ensures) ∙ not-true (c .before .all-in-range .result) (c .if2 .taken))
+enum-told : tie.Need-enum-told
+enum-told c = search needs
 
 scaled-powers-requires : tie.Need-scaled-powers-requires
 scaled-powers-requires c κs = search needs
@@ -43,31 +32,34 @@ level-starts-requires c κs = search needs
 sheet-of-requires : tie.Need-sheet-of-requires
 sheet-of-requires c κs =
     let t = c .before .before .before in
-    let e = t .before .before .before in
-    let b = e .before .before .before .before in (
+    let b = t .before .before .before in
+    let a = b .before .before .before .args in (
       record { scaled = t .before .before .scaled-powers .ensures; reached = t .before .level-thresholds .ensures; started = t .level-starts .ensures },
-      ap (accepted (b .before .args .set)) (sym (b .bands-of .ensures))
-          ∙ sym (e .before .all-in-range .ensures) ∙ not-false (e .before .all-in-range .result) (e .if2 .left),
+      fit-accepted (a .kind) (a .set) (fit b),
     )
 
-returns-3 : tie.Need-returns-3
-returns-3 c =
-    let e = c .before .before .before .before .before .before .before in
-    let b = e .before .before .before .before in
-    let k = b .before .args .kind in
-    in-order k (b .before .args .set) (b .bands-of .result) (c .sheet-of .result) (b .bands-of .ensures)
-    (e .before .before .if1 .left) (sym (e .before .all-in-range .ensures) ∙ not-false (e .before .all-in-range .result) (e .if2 .left)) (c .sheet-of .ensures)
+returns : tie.Need-returns
+returns c =
+    let b = c .before in
+    let a = b .before .before .before .args in
+    unfit-rated (a .kind) (a .set) (b .refusal .given .0 .0) (sym (b .refusal .given .1) ∙ b .before .before .accept .ensures)
+
+returns-2 : tie.Need-returns-2
+returns-2 c =
+    let b = c .before .before .before .before .before .before .before in
+    let a = b .before .before .before .args in
+    fit-rated (a .kind) (a .set) (c .sheet-of .result) (fit b) (c .sheet-of .ensures)
 
 pub rate-spec : {M : Type 1} → statement M
 rate-spec =
     tie.close
     (tie.spec
-    bands-of-requires
-    returns
-    all-in-range-requires
-    returns-2
+    accept-requires
+    enum-known-refusal
+    enum-told
     scaled-powers-requires
     level-thresholds-requires
     level-starts-requires
     sheet-of-requires
-    returns-3)
+    returns
+    returns-2)

@@ -1,0 +1,216 @@
+-- `lift::lists::put_last` meets its contract. The invariant: of the listed sets, those with a last band below band i are written.
+-- Assumes nothing.
+use mathlib.Core.Path.{_≡_, sym, _∙_, ap, subst}
+use mathlib.Core.List.{List, [], _∷_}
+use mathlib.Core.Logic.{⊎-elim}
+use Prim.Native.Nat.{ℕ, _+_, _-_, _^_, _≤_, _<_}
+use native.Mathlib.Nat.{le-refl}
+use native.Mathlib.Omega.{arith}
+use borrow.Author.Needs.{needs}
+use lib.ListN.{length, set}
+use Rattle.laws.specs.Lists.{front}
+use Rattle.laws.proofs.Fronts.{Writing, none-written, all-written, piece-room, out-length, one-written}
+use Rattle.curve.specs.Levels.{at}
+use Rattle.sets.specs.Gains.{joinedBy}
+use Rattle.sets.proofs.Joining.{below-band, least-small, joined-end, last-listed, last-short, last-idle, last-none}
+use Rattle.lift.proofs.Joined.{mask-fits, mask-is}
+use Rattle.lift.proofs.lists.put_last.Statement.{statement}
+use Rattle.lift.proofs.lists.put_last.Tie as tie
+
+abbrev Inv-loop : tie.InvT-loop
+Inv-loop part gains bands need out₀ left bound count₀ i₀ out count i =
+    (part .from ≤ i)
+    × Writing (joinedBy (at gains) need bands 1 (part .mask) (part .from)) (joinedBy (at gains) need bands 1 (part .mask) i) out₀ count out
+
+abbrev μ-loop : tie.MeasureT-loop
+μ-loop part gains bands need out₀ left bound count₀ i₀ out count i = bands - i
+
+-- the listed sets with a last band from band i on, all of them written so far but for `rest`
+abbrev from : tie.Start Inv-loop μ-loop → ℕ → List ℕ
+from s i = joinedBy (at (s .args .gains .now)) (s .args .need) (s .args .bands) 1 (s .args .part .mask) i
+
+abbrev start : tie.At-loop Inv-loop μ-loop → tie.Start Inv-loop μ-loop
+start c = c .before .before .before .before .before
+
+abbrev But : tie.At-loop Inv-loop μ-loop → List ℕ → ℕ → List ℕ → Type 0
+But c rest count out = Writing (from (start c) (start c .args .part .from)) rest (start c .args .out .now) count out
+
+-- the bands are at most 16
+in-word : (c : tie.In-loop Inv-loop μ-loop) → c .before .loop .i < 16
+in-word c = omega (arith, c .loop-test .taken, start (c .before) .pre .1 .0 .bands)
+
+-- a set that is listed, and where there is none
+listed : (c : tie.Then3 Inv-loop μ-loop) → let l = c .before .before .before .before .before in
+    But l ((start l .args .part .mask + 2 ^ l .loop .i) ∷ from (start l) (l .loop .i + 1)) (l .loop .count) (l .loop .out)
+listed c =
+    let b = c .before .before .before .before in
+    let l = b .before .loop in
+    let s = start (b .before) in
+    let p = s .args .part in
+    subst (λ (r : List ℕ). But (b .before) r (l .count) (l .out))
+    (last-listed (at (s .args .gains .now)) (s .args .need) (s .args .bands) (p .mask) (p .sum) (p .least) (p .from) (s .pre .0) (s .pre .1 .0 .bands)
+    (l .i) (l .inv .0) (b .loop-test .taken) (b .before .before .before .before .if1 .left) (c .before .before .if2 .taken) (c .if3 .taken))
+    (l .inv .1)
+
+idle : (c : tie.Else3 Inv-loop μ-loop) → let l = c .before .before .before .before .before in
+    But l (from (start l) (l .loop .i + 1)) (l .loop .count) (l .loop .out)
+idle c =
+    let b = c .before .before .before .before in
+    let l = b .before .loop in
+    let s = start (b .before) in
+    let p = s .args .part in
+    subst (λ (r : List ℕ). But (b .before) r (l .count) (l .out))
+    (last-idle (at (s .args .gains .now)) (s .args .need) (s .args .bands) (p .mask) (p .sum) (p .least) (p .from) (s .pre .0) (s .pre .1 .0 .bands)
+    (l .i) (l .inv .0) (b .loop-test .taken) (b .before .before .before .before .if1 .left) (c .if3 .left))
+    (l .inv .1)
+
+short : (c : tie.Else2 Inv-loop μ-loop) → let l = c .before .before .before in
+    But l (from (start l) (l .loop .i + 1)) (l .loop .count) (l .loop .out)
+short c =
+    let b = c .before .before in
+    let l = b .before .loop in
+    let s = start (b .before) in
+    let p = s .args .part in
+    subst (λ (r : List ℕ). But (b .before) r (l .count) (l .out))
+    (last-short (at (s .args .gains .now)) (s .args .need) (s .args .bands) (p .mask) (p .sum) (p .least) (p .from) (s .pre .0) (s .pre .1 .0 .bands)
+    (l .i) (l .inv .0) (b .loop-test .taken) (c .if2 .left))
+    (l .inv .1)
+
+-- there is a place for it
+room : (c : tie.Then3 Inv-loop μ-loop) → let l = c .before .before .before .before .before in l .loop .count + 1 ≤ length (start l .args .out .now)
+room c =
+    let l = c .before .before .before .before .before in
+    let s = start l in
+    piece-room (from s (s .args .part .from)) ((s .args .part .mask + 2 ^ l .loop .i) ∷ []) (from s (l .loop .i + 1)) (s .args .out .now)
+    (l .loop .count) (l .loop .out) (s .pre .1 .1) (listed c)
+
+same : (c : tie.At-loop Inv-loop μ-loop) → length (c .loop .out) ≡ length (start c .args .out .now)
+same c =
+    let s = start c in
+    out-length (from s (s .args .part .from)) [] (from s (c .loop .i)) (s .args .out .now) (c .loop .count) (c .loop .out) (s .pre .1 .1) (c .loop .inv .1)
+
+returns : tie.Need-returns Inv-loop μ-loop
+returns c =
+    let s = c .before .before in
+    let p = s .args .part in
+    let none = last-none (at (s .args .gains .now)) (s .args .need) (s .args .bands) (p .mask) (p .sum) (p .least) (p .from) (s .pre .0) (s .pre .1 .0 .bands) (c .if1 .taken) in
+    (ap length (sym none), ap (λ (l : List ℕ). front l (s .args .out .now)) (sym none))
+
+sub-left : tie.Need-sub-left Inv-loop μ-loop
+sub-left c = omega arith
+
+add-bound : tie.Need-add-bound Inv-loop μ-loop
+add-bound c =
+    let s = c .before .before .before .before in
+    let p = s .args .part in
+    omega (arith, s .pre .1 .0 .needed, least-small (at (s .args .gains .now)) (p .mask) (p .sum) (p .least) (p .from) (s .pre .0) (p .from) (le-refl (p .from)))
+
+loop-holds : tie.Need-loop-holds Inv-loop μ-loop
+loop-holds c =
+    let s = c .before .before .before .before in
+    (le-refl (s .args .part .from), none-written (from s (s .args .part .from)) (s .args .out .now))
+
+mul-if2 : tie.Need-mul-if2 Inv-loop μ-loop
+mul-if2 c = omega arith
+
+element-copy-out-if2 : tie.Need-element-copy-out-if2 Inv-loop μ-loop
+element-copy-out-if2 c = in-word c
+
+mul-if3 : tie.Need-mul-if3 Inv-loop μ-loop
+mul-if3 c = omega arith
+
+element-copy-out-if3 : tie.Need-element-copy-out-if3 Inv-loop μ-loop
+element-copy-out-if3 c = in-word (c .before .before)
+
+cast-out : tie.Need-cast-out Inv-loop μ-loop
+cast-out c = search needs
+
+shl-out : tie.Need-shl-out Inv-loop μ-loop
+shl-out c = omega (arith, in-word (c .before .before .before .before))
+
+add-out : tie.Need-add-out Inv-loop μ-loop
+add-out c =
+    let b = c .before .before .before .before .before in
+    let s = start (b .before) in
+    let p = s .args .part in
+    omega (
+      arith,
+      mask-fits (p .mask) (b .before .loop .i) (in-word b)
+          (below-band (at (s .args .gains .now)) (p .mask) (p .sum) (p .least) (p .from) (s .pre .0) (b .before .loop .i) (b .before .loop .inv .0)),
+    )
+
+mul-out : tie.Need-mul-out Inv-loop μ-loop
+mul-out c = omega (arith, start (c .before .before .before .before .before .before) .good, room (c .before))
+
+slice-write-out : tie.Need-slice-write-out Inv-loop μ-loop
+slice-write-out c = omega (arith, same (c .before .before .before .before .before .before), room (c .before))
+
+add-count : tie.Need-add-count Inv-loop μ-loop
+add-count c = omega (arith, start (c .before .before .before .before .before .before) .good, room (c .before))
+
+add-i : tie.Need-add-i Inv-loop μ-loop
+add-i c = omega arith
+
+loop-less : tie.Need-loop-less Inv-loop μ-loop
+loop-less c = omega arith
+
+loop-again : tie.Need-loop-again Inv-loop μ-loop
+loop-again c =
+    let b = c .before .before in
+    let l = b .before .loop in
+    let s = start (b .before) in
+    let rest = from s (l .i + 1) in (
+      omega arith,
+      ⊎-elim
+          (λ w.
+          subst (λ (n : ℕ). But (b .before) rest n (c .if2 .out)) (sym (w .5))
+          (subst (But (b .before) rest (l .count + 1)) (ap (set (l .out) (l .count)) (sym (mask-is (s .args .part .mask) (l .i) (in-word b))) ∙ sym (w .4))
+          (one-written (from s (s .args .part .from)) rest (s .args .out .now) (s .args .part .mask + 2 ^ l .i) (l .count) (l .out) (s .pre .1 .1)
+          (listed (record { before = record { before = record { before = c .before; if2 = w .0 }; if32 = w .1 }; if3 = w .2 })))))
+          (⊎-elim
+          (λ w.
+          subst (λ (n : ℕ). But (b .before) rest n (c .if2 .out)) (sym (w .4))
+          (subst (But (b .before) rest (l .count)) (sym (w .3))
+          (idle (record { before = record { before = record { before = c .before; if2 = w .0 }; if32 = w .1 }; if3 = w .2 }))))
+          (λ w.
+          subst (λ (n : ℕ). But (b .before) rest n (c .if2 .out)) (sym (w .2))
+          (subst (But (b .before) rest (l .count)) (sym (w .1)) (short (record { before = c .before; if2 = w .0 })))))
+          (c .if2 .came),
+    )
+
+same-length : tie.Need-same-length Inv-loop μ-loop
+same-length c = same (c .before)
+
+returns-2 : tie.Need-returns-2 Inv-loop μ-loop
+returns-2 c =
+    let l = c .before .loop in
+    let s = start (c .before) in
+    all-written (from s (s .args .part .from)) (s .args .out .now) (l .count) (l .out)
+    (subst (λ (r : List ℕ). But (c .before) r (l .count) (l .out))
+    (joined-end (at (s .args .gains .now)) (s .args .need) (s .args .bands) 0 (s .args .part .mask) (l .i) (c .loop-test .left)) (l .inv .1))
+
+pub put-last-spec : {M : Type 1} → statement M
+put-last-spec =
+    tie.close
+    (tie.spec
+    Inv-loop
+    μ-loop
+    returns
+    sub-left
+    add-bound
+    loop-holds
+    mul-if2
+    element-copy-out-if2
+    mul-if3
+    element-copy-out-if3
+    cast-out
+    shl-out
+    add-out
+    mul-out
+    slice-write-out
+    add-count
+    add-i
+    loop-less
+    loop-again
+    same-length
+    returns-2)
