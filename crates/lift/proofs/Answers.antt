@@ -3,16 +3,15 @@
 use mathlib.Core.Path.{_≡_, refl, sym, _∙_, ap, subst}
 use mathlib.Core.Bool.{Bool, true, false}
 use mathlib.Core.List.{List}
-use Prim.Native.Nat.{ℕ, _+_, _-_, _≤_, _<_}
+use Prim.Native.Nat.{ℕ, _-_, _≤_, _<_}
 use native.Mathlib.Nat.{le-of-lt}
 use borrow.Author.Tests.{le-leb, lt-leb}
 use lib.Dec.{T, eqb}
 use lib.IntN.{ℤ, pos, negsuc}
 use lib.ListN.{length}
-use lib.Signed.{leZ, ltZ, _≤ℤ_}
-use Rattle.laws.specs.Parts.{P, N}
+use lib.Signed.{ltZ}
 use Rattle.laws.specs.Lists.{front}
-use Rattle.laws.proofs.Ints.{lt-yes, lt-no, le-made, le-read}
+use Rattle.laws.proofs.Ints.{lt-yes, lt-no}
 use Rattle.quantity.specs.Quantities.{bandOf}
 use Rattle.quantity.specs.declared.quantities.BandSet.{BandSet}
 use Rattle.quantity.specs.declared.quantities.Decibels.{Decibels}
@@ -32,31 +31,25 @@ use Rattle.rating.specs.Numbers.{entriesOf, numbersOf, ratingAt}
 use Rattle.rating.specs.Sheets.{asked, sheetOf, ratedOf, aloneOf}
 use Rattle.rating.proofs.Facts.{count-of, entries-fit}
 use Rattle.sets.specs.Gains.{byGains, Bounded, Countable, Gained}
-use Rattle.sets.proofs.Tests.{is-true, is-false}
 use Rattle.lift.specs.declared.lists.Lifted.{Lifted}
 use Rattle.lift.specs.declared.lists.Lifted.the-variants.{Count, Refused}
 use Rattle.lift.specs.Reach.{betterBy, liftList}
 use Rattle.lift.specs.Calls.{inTargets, placesOf, countOf, answerBy, answerOf, RatedIs, LiftIs}
 use Rattle.lift.proofs.Listing.{can-count, position-small, above-limit, need-small, gains-small, list-is, list-room}
+use Rattle.laws.proofs.Ints.{le-true, le-false}
 
 -- ---- the range of targets
-le-test : (x y : ℤ) → P x + N y ≤ P y + N x → leZ x y ≡ true
-le-test x y h = let r : x ≤ℤ y = le-made h in is-true (leZ x y) (r .le)
-
-lt-test : (x y : ℤ) → P y + N x < P x + N y → leZ x y ≡ false
-lt-test x y h = is-false (leZ x y) (λ t. let r : x ≤ℤ y = record { le = t } in native.Mathlib.Nat.not-le-of-lt h (le-read r))
-
 pub target-low : (t : ℤ) → ltZ t (negsuc 99) ≡ true → false ≡ inTargets t
 unfolding inTargets
-target-low t e = rw (lt-test (negsuc 99) t (lt-yes t (negsuc 99) e))
+target-low t e = rw (le-false (negsuc 99) t (lt-yes t (negsuc 99) e))
 
 pub target-high : (t : ℤ) → ltZ t (negsuc 99) ≡ false → ltZ (pos 200) t ≡ true → false ≡ inTargets t
 unfolding inTargets
-target-high t e d = rw (le-test (negsuc 99) t (lt-no t (negsuc 99) e), lt-test t (pos 200) (lt-yes (pos 200) t d))
+target-high t e d = rw (le-true (negsuc 99) t (lt-no t (negsuc 99) e), le-false t (pos 200) (lt-yes (pos 200) t d))
 
 pub target-in : (t : ℤ) → ltZ t (negsuc 99) ≡ false → ltZ (pos 200) t ≡ false → true ≡ inTargets t
 unfolding inTargets
-target-in t e d = rw (le-test (negsuc 99) t (lt-no t (negsuc 99) e), le-test t (pos 200) (lt-no (pos 200) t d))
+target-in t e d = rw (le-true (negsuc 99) t (lt-no t (negsuc 99) e), le-true t (pos 200) (lt-no (pos 200) t d))
 
 -- ---- better, where the sign is known
 pub better-up : (sign : Bool) (t r : ℤ) → sign ≡ true → ltZ r t ≡ betterBy sign t r

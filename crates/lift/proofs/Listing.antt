@@ -19,7 +19,8 @@ use Rattle.laws.proofs.Sums.{sum-same, sum-plus}
 use Rattle.quantity.specs.Quantities.{inRange, bandOf}
 use Rattle.quantity.specs.declared.quantities.BandSet.{BandSet}
 use Rattle.quantity.proofs.Rim.{sum-value, difference-value}
-use Rattle.curve.specs.Bands.{accepted, bit}
+use Rattle.curve.specs.Bands.{accepted}
+use Rattle.laws.specs.Tests.{bit}
 use Rattle.curve.specs.Levels.{at, levelBy, levelAt, startAt}
 use Rattle.curve.proofs.Walks.{total-most}
 use Rattle.curve.proofs.Counted.{counted, level-parts}
@@ -35,7 +36,8 @@ use Rattle.rating.proofs.Meaning.{total-is, rating-is}
 use Rattle.sets.specs.Masks.{isMask, smaller, choose, masksInOrder}
 use Rattle.sets.specs.Highest.{highest}
 use Rattle.sets.specs.Gains.{targetAt, lacking, gain, gainsOf, listedBy, byGains, Countable, Gained}
-use Rattle.sets.proofs.Tests.{holds, is-true, one-test, and-left, and-right, all-same}
+use Rattle.laws.proofs.Tests.{holds, is-true, one-test, and-left, and-right}
+use Rattle.laws.proofs.Ranges.{all-same}
 use Rattle.sets.proofs.Filters.{filter-same, filter-length, each-of}
 use Rattle.sets.proofs.Enumeration.{all-sets, set-word, set-some}
 use Rattle.sets.proofs.Counting.{best-in, best-most}
@@ -43,6 +45,7 @@ use Rattle.sets.proofs.Minimal.{least-is}
 use Rattle.lift.specs.Reach.{betterBy, meetsBy, lifted, reaches, listedMask, liftList}
 use Rattle.lift.specs.Calls.{inTargets, placesOf}
 use Rattle.lift.proofs.Reached.{meets-is, reaches-is}
+use Rattle.rating.proofs.Small.{origin-small}
 
 -- ---- the target's position, as a natural
 pub position-at : (k : Kind) (target : ℤ) → Countable (airborne k) target (ratingAt k)
@@ -68,12 +71,6 @@ better-counts false origin p t o lo hi e = (
   omega (arith, lt-yes t (pos origin -ℤ pos p) e, minus (pos origin) (pos p), apart t, apart (pos origin -ℤ pos p)),
   omega arith,
 )
-
-origin-small : (k : Kind) → ratingAt k < 200
-origin-small A3 = omega arith
-origin-small A1 = omega arith
-origin-small I3 = omega arith
-origin-small I1 = omega arith
 
 targets-read : (t : ℤ) → inTargets t ≡ true → (N t ≤ 100) × (P t ≤ 200)
 unfolding inTargets

@@ -10,7 +10,8 @@ use lib.ListN.{length}
 use Rattle.quantity.specs.Quantities.{bandOf}
 use Rattle.quantity.specs.declared.quantities.BandSet.{BandSet}
 use Rattle.quantity.specs.declared.refusals.Refusal.the-variants.{BandCount, BandRange, NotBetter, TargetRange, NoRoom}
-use Rattle.curve.specs.Bands.{allTo, bit, accepted}
+use Rattle.curve.specs.Bands.{accepted}
+use Rattle.laws.specs.Tests.{allTo, bit}
 use Rattle.rating.specs.declared.kinds.Kind.{Kind}
 use Rattle.rating.specs.declared.sheets.Rated.{Rated}
 use Rattle.rating.specs.declared.sheets.Rated.the-variants.{Rating, Refused as Unrated}

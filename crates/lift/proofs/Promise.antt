@@ -13,14 +13,15 @@ use lib.Seq.{getD-append-add, getD-drop}
 use Rattle.quantity.specs.Quantities.{bandOf}
 use Rattle.quantity.specs.declared.quantities.BandSet.{BandSet}
 use Rattle.quantity.specs.declared.refusals.Refusal.the-variants.{NotBetter, TargetRange, NoRoom}
-use Rattle.curve.specs.Bands.{allTo}
+use Rattle.laws.specs.Tests.{allTo}
 use Rattle.rating.specs.declared.kinds.Kind.{Kind}
 use Rattle.rating.specs.declared.sheets.Rated.{Rated}
 use Rattle.rating.specs.declared.sheets.Rated.the-variants.{Rating, Refused as Unrated}
 use Rattle.rating.specs.Kinds.{airborne, bandsOf}
 use Rattle.rating.specs.Sheets.{ratedOf}
 use Rattle.sets.specs.Masks.{isMask, smaller, before, masksInOrder}
-use Rattle.sets.proofs.Tests.{and-left, and-right, and-both, all-read, all-made}
+use Rattle.laws.proofs.Tests.{and-left, and-right, and-both}
+use Rattle.laws.proofs.Ranges.{all-read, all-hold}
 use Rattle.sets.proofs.Filters.{Kept, filter-read, filter-made, each-of, rising-filter, in-order}
 use Rattle.sets.proofs.Order.{before-chain, before-other}
 use Rattle.sets.proofs.Enumeration.{all-sets, sets-rise, every-set}
@@ -53,7 +54,7 @@ module _ (k : Kind) (x : ℕ → ℤ) (t : ℤ) where
   listed-complete m l =
       filter-made (listedMask k x t) (masksInOrder (bandsOf k)) m (every-set k m (l .bands))
       (and-both (reaches k x t m) (allTo (fails m) 65536) (l .reaching)
-      (all-made (fails m) 65536 (λ p w. not-T (smaller p m && reaches k x t p)
+      (all-hold (fails m) 65536 (λ p w. not-T (smaller p m && reaches k x t p)
       (λ u. l .least p w (and-left (smaller p m) (reaches k x t p) u) (and-right (smaller p m) (reaches k x t p) u)))))
 
   -- "Order: by size, then by lowest band, next band, last band."

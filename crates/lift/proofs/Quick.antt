@@ -19,15 +19,13 @@ use Rattle.rating.specs.Kinds.{airborne, bandsOf, limitOf}
 use Rattle.rating.specs.Curve.{ratingOf}
 use Rattle.rating.specs.Numbers.{entriesOf, ratingAt}
 use Rattle.sets.specs.Gains.{byGains, gainAt, Gained}
-use Rattle.sets.proofs.Tests.{is-true, and-left, and-right}
+use Rattle.laws.proofs.Tests.{is-true, and-left, and-right}
 use Rattle.lift.specs.Reach.{betterBy, liftList}
 use Rattle.lift.specs.Calls.{inTargets}
 use Rattle.lift.proofs.Listing.{list-is}
+use Rattle.quantity.specs.Quantities.{tenths}
 
 -- bands from the lowest, as a band set
-abbrev tenths : ℤ → Tenths
-tenths z = record { 0 = z }
-
 abbrev setOf : List ℤ → BandSet
 setOf x = record { values = map tenths x; marks = 0; len = length x }
 

@@ -1,33 +1,36 @@
 -- Reaching by rating is the total of deficits at the target within the limit: the rating is the best position within it, and
 -- a less strict position is within it too. One proof over the kind. Assumes nothing.
-use mathlib.Core.Path.{_≡_, sym, _∙_, ap, ap₂, fun-ext}
+use mathlib.Core.Path.{_≡_, sym, _∙_, ap}
 use mathlib.Core.Bool.{Bool, true, false, cond}
-use mathlib.Core.List.{List, [], _∷_}
-use Prim.Native.Nat.{ℕ, zero, suc, _+_, _*_, _≤_, _<_}
-use native.Mathlib.Nat.{le-trans, add-zero, suc-add, add-suc, not-suc-le-zero}
+use Prim.Native.Nat.{ℕ, _+_, _*_, _≤_, _<_}
+use native.Mathlib.Nat.{le-trans}
 use native.Mathlib.Omega.{arith}
 use lib.Dec.{T, leb, leb→le, le→leb}
 use lib.IntN.{ℤ, pos, _+ℤ_, _-ℤ_, _*ℤ_}
-use lib.ListN.{getD}
 use lib.Signed.{_≤ℤ_}
 use Rattle.laws.proofs.Ints.{plus, minus, apart, times-P, times-N, le-made, le-read}
-use Rattle.laws.proofs.Sums.{sum-same, sum-mono, sumℤ-same}
+use Rattle.laws.proofs.Sums.{sum-mono}
 use Rattle.quantity.specs.Quantities.{inRange, bandOf}
 use Rattle.quantity.specs.declared.quantities.Tenths.{Tenths}
 use Rattle.quantity.specs.declared.quantities.BandSet.{BandSet}
-use Rattle.curve.specs.Bands.{accepted, bit}
-use Rattle.curve.proofs.Walks.{all-made}
+use Rattle.curve.specs.Bands.{accepted}
+use Rattle.laws.specs.Tests.{bit}
+use Rattle.laws.proofs.Ranges.{all-made}
 use Rattle.curve.proofs.Searched.{band-in, count-most}
 use Rattle.rating.specs.declared.kinds.Kind.{Kind}
 use Rattle.rating.specs.Kinds.{airborne, bandsOf, limitOf, referenceOf}
-use Rattle.rating.specs.Curve.{deficitBy, deficit, total, within, stricterBy, IsPosition, startOf, startBy, shifted, firstFrom, shiftsOf, positionOf, takenOff, ratingOf}
+use Rattle.rating.specs.Curve.{deficitBy, deficit, total, within, stricterBy, IsPosition, positionOf, takenOff, ratingOf}
 use Rattle.rating.proofs.Facts.{count-of}
 use Rattle.rating.proofs.Theorems.{position-best}
 use Rattle.sets.specs.Highest.{highest}
 use Rattle.sets.specs.Gains.{targetAt}
-use Rattle.sets.proofs.Tests.{one-test}
+use Rattle.laws.proofs.Tests.{one-test}
 use Rattle.sets.proofs.Counting.{best-in}
 use Rattle.lift.specs.Reach.{meetsBy, lifted, reaches}
+use Rattle.laws.specs.Lists.{listed}
+use Rattle.laws.proofs.Lists.{listed-at}
+use Rattle.quantity.specs.Quantities.{tenths}
+use Rattle.rating.proofs.Theorems.{total-same, rating-same}
 
 -- ---- a less strict position has no greater deficits
 deficit-less : (sign : Bool) (p q K x : ℤ) → stricterBy sign p q → deficitBy sign q K x ≤ deficitBy sign p K x
@@ -100,52 +103,17 @@ meets-is k s acc target =
     (λ t. within-less k x q (targetAt k target) (meets-read (airborne k) target q (takenOff k) t) (is .holds))
     (λ t. meets-made (airborne k) target q (takenOff k) (is .best (targetAt k target) t))
 
--- ---- what lies past the bands does not matter
-module _ (k : Kind) (x y : ℕ → ℤ) (same : (i : ℕ) → i < bandsOf k → x i ≡ y i) where
-  pub total-same : (p : ℤ) → total k x p ≡ total k y p
-  unfolding total
-  total-same p =
-      sum-same (λ i. deficit k p (referenceOf k i) (x i)) (λ i. deficit k p (referenceOf k i) (y i)) (bandsOf k)
-      (λ i h. ap (deficit k p (referenceOf k i)) (same i h))
-
-  within-same : (p : ℤ) → within k x p ≡ within k y p
-  unfolding within
-  within-same p = ap (λ (t : ℕ). leb t (limitOf k)) (total-same p)
-
-  start-same : startOf k x ≡ startOf k y
-  unfolding startOf
-  start-same = ap (λ (z : ℤ). startBy (airborne k) z (10 * bandsOf k)) (sumℤ-same x y (bandsOf k) same)
-
-  pub rating-same : ratingOf k x ≡ ratingOf k y
-  unfolding ratingOf positionOf shiftsOf
-  rating-same =
-      ap₂ (λ (z : ℤ) (ok : ℤ → Bool). shifted k z (firstFrom (λ s. ok (shifted k z s)) 500 0) -ℤ takenOff k)
-      start-same (fun-ext within-same)
-
 -- ---- the band set with the bands of m lifted
-tabled : (ℕ → ℤ) → ℕ → ℕ → List Tenths
-tabled x zero i = []
-tabled x (suc n) i = record { 0 = x i } ∷ tabled x n (suc i)
-
-tabled-at : (x : ℕ → ℤ) (n j i : ℕ) → i < n → getD (tabled x n j) i (record { 0 = pos 0 }) .0 ≡ x (j + i)
-unfolding tabled
-tabled-at x zero j i h = absurd (not-suc-le-zero h)
-tabled-at x (suc n) j zero h = ap x (sym (add-zero j))
-tabled-at x (suc n) j (suc i) h = tabled-at x n (suc j) i (omega arith) ∙ ap x (suc-add j i ∙ sym (add-suc j i))
-
 module _ (k : Kind) (s : BandSet) (acc : accepted s (bandsOf k) ≡ true) (m : ℕ) where
   abbrev y : ℕ → ℤ
   y = lifted k (bandOf s) m
 
   mended : BandSet
-  mended = record { values = tabled y 16 0; marks = s .marks; len = s .len }
+  mended = record { values = listed (λ i. tenths (y i)) 16 0; marks = s .marks; len = s .len }
 
   mended-is : (i : ℕ) → i < bandsOf k → bandOf mended i ≡ y i
   unfolding mended
-  mended-is i h = tabled-at y 16 0 i (omega (arith, count-most (count-of k))) ∙ ap y (none i)
-    where
-      none : (i : ℕ) → 0 + i ≡ i
-      none i = omega arith
+  mended-is i h = ap (λ (v : Tenths). v .0) (listed-at (tenths (pos 0)) (λ j. tenths (y j)) 16 i (omega (arith, count-most (count-of k))))
 
   lifted-in : (i : ℕ) → i < bandsOf k → inRange (y i) ≡ true
   unfolding lifted

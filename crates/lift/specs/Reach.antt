@@ -6,7 +6,7 @@ use Prim.Native.Nat.{ℕ, _<_}
 use lib.Dec.{T}
 use lib.IntN.{ℤ}
 use lib.Signed.{leZ, ltZ}
-use Rattle.curve.specs.Bands.{allTo, bit}
+use Rattle.laws.specs.Tests.{allTo, bit}
 use Rattle.rating.specs.declared.kinds.Kind.{Kind}
 use Rattle.rating.specs.Kinds.{airborne, bandsOf}
 use Rattle.rating.specs.Curve.{ratingOf}

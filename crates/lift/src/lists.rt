@@ -2,6 +2,7 @@
 use quantity::BandSet;
 use quantity::Decibels;
 use quantity::Refusal;
+use quantity::naturals::lesser;
 use rating::A1Kind;
 use rating::A3Kind;
 use rating::Alone;
@@ -30,16 +31,6 @@ ghost use Rattle.lift.specs.Calls.{inTargets, placesOf, RatedIs, LiftIs}
 pub enum Lifted {
     Count(usize),
     Refused(Refusal),
-}
-
-// The lesser of two numbers.
-fn lesser(a: u32, b: u32) -> u32
-    ensures { λ r. ⌜ r ≡ min a b ⌝ }
-{
-    if a < b {
-        return a;
-    }
-    b
 }
 
 // A set of bands as far as it is put together: its bands, the sum and the least of their gains, and the first band that may

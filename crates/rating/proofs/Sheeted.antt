@@ -12,9 +12,11 @@ use Rattle.laws.proofs.Lists.{listed-at}
 use Rattle.quantity.specs.Quantities.{halfUp, bandOf}
 use Rattle.quantity.specs.declared.quantities.BandSet.{BandSet}
 use Rattle.quantity.specs.declared.quantities.Decibels.{Decibels}
-use Rattle.curve.specs.Bands.{accepted, limited, anyTo, bit}
+use Rattle.curve.specs.Bands.{accepted, limited}
+use Rattle.laws.specs.Tests.{anyTo, bit}
 use Rattle.curve.specs.Levels.{at, levelAt, startAt, Entries, Settled}
-use Rattle.curve.proofs.Counted.{PartsOf, counted, level-parts, Up}
+use Rattle.curve.proofs.Counted.{PartsOf, counted, level-parts}
+use Rattle.laws.proofs.Counted.{Up}
 use Rattle.curve.proofs.Searched.{band-in, count-most, count-some}
 use Rattle.rating.specs.declared.kinds.Kind.{Kind}
 use Rattle.rating.specs.declared.kinds.Numbers.{Numbers}

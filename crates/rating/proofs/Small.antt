@@ -31,6 +31,8 @@ use Rattle.rating.proofs.Weighing.{u-small, term-small}
 use Rattle.rating.proofs.Meaning.{start-below, rating-is}
 use Rattle.rating.proofs.Sheeted.{first-is, second-given}
 use Rattle.rating.specs.Bounds.{Small, SmallSheet}
+use Rattle.laws.proofs.Tests.{clash}
+use borrow.Author.Tests.{eqb-true}
 
 rating-by : (sign : Bool) (o p : ℕ) → o < 200 → p < 500 → (P (ratingBy sign o p) < 500) × (N (ratingBy sign o p) < 500)
 rating-by true o p h k =
@@ -52,7 +54,7 @@ pub shifts-most : (k : Kind) (x : ℕ → ℤ) → shiftsOf k x ≤ 500
 unfolding shiftsOf
 shifts-most k x = first-most (λ s. within k x (shifted k (startOf k x) s)) 500 0
 
-origin-small : (k : Kind) → ratingAt k < 200
+pub origin-small : (k : Kind) → ratingAt k < 200
 origin-small A3 = omega arith
 origin-small A1 = omega arith
 origin-small I3 = omega arith
@@ -108,24 +110,22 @@ module _ (k : Kind) (s : BandSet) (acc : accepted s (bandsOf k) ≡ true) where
 
 -- a rating that was given is that of an accepted set
 pub record RatedBy (k : Kind) (s : BandSet) (sheet : Sheet) : Type 0 where
+  pub len : s .len ≡ bandsOf k
   pub acc : accepted s (bandsOf k) ≡ true
   pub same : sheet ≡ sheetOf k s
   pub small : SmallSheet sheet
 
 pub rated-by : (k : Kind) (s : BandSet) (sheet : Sheet) → ratedOf k s ≡ Rating sheet → RatedBy k s sheet
 unfolding ratedOf
-rated-by k s sheet e = go (eqb (s .len) (bandsOf k)) (accepted s (bandsOf k)) refl e
+rated-by k s sheet e = go (eqb (s .len) (bandsOf k)) (accepted s (bandsOf k)) refl refl e
   where
-    clash : _≡_ {A = ℕ} 0 1 → ⊥
-    clash z = omega arith
-
-    go : (a b : Bool) → accepted s (bandsOf k) ≡ b → asked a (asked b (Rating (sheetOf k s)) (Refused BandRange)) (Refused BandCount) ≡ Rating sheet
+    go : (a b : Bool) → eqb (s .len) (bandsOf k) ≡ a → accepted s (bandsOf k) ≡ b → asked a (asked b (Rating (sheetOf k s)) (Refused BandRange)) (Refused BandCount) ≡ Rating sheet
         → RatedBy k s sheet
-    go true true f g =
+    go true true h f g =
         let q : sheet ≡ sheetOf k s = cc in
-        record { acc = f; same = q; small = subst SmallSheet (sym q) (sheet-small k s f) }
-    go true false f g = absurd (clash (cc))
-    go false b f g = absurd (clash (cc))
+        record { len = eqb-true (s .len) (bandsOf k) h; acc = f; same = q; small = subst SmallSheet (sym q) (sheet-small k s f) }
+    go true false h f g = clash cc
+    go false b h f g = clash cc
 
 -- its count of shifts is that of the search
 pub rated-shifts : (k : Kind) (s : BandSet) (sheet : Sheet) → ratedOf k s ≡ Rating sheet → sheet .shifts ≤ 500

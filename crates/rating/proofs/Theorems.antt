@@ -9,27 +9,28 @@ use native.Mathlib.Decide.{ℕ-discrete}
 use native.Mathlib.Omega.{arith}
 use lib.Dec.{T, eqb, leb}
 use lib.IntN.{ℤ, pos, _+ℤ_, _-ℤ_, _*ℤ_}
-use Rattle.laws.specs.Parts.{P}
+use Rattle.laws.specs.Parts.{P, lesser, greater}
 use Rattle.laws.specs.Lists.{listed}
 use Rattle.laws.specs.Sums.{sumTo}
 use Rattle.laws.proofs.Ints.{plus, minus, eq-made, le-read}
 use Rattle.laws.proofs.Lists.{listed-at}
 use Rattle.laws.proofs.Sums.{sum-same, sumℤ-same}
-use Rattle.quantity.specs.Quantities.{inRange, halfUp, bandOf}
+use Rattle.quantity.specs.Quantities.{tenths, inRange, halfUp, bandOf}
 use Rattle.quantity.specs.declared.quantities.BandSet.{BandSet}
 use Rattle.quantity.specs.declared.quantities.Tenths.{Tenths}
 use Rattle.quantity.specs.declared.refusals.Refusal.the-variants.{BandCount, BandRange}
 use Rattle.energy.specs.Energies.{F, u}
-use Rattle.curve.specs.Bands.{bit, accepted, limited}
+use Rattle.curve.specs.Bands.{accepted, limited}
+use Rattle.laws.specs.Tests.{bit}
 use Rattle.curve.specs.Levels.{levelAt, startAt}
-use Rattle.curve.proofs.Walks.{all-made, all-same, any-same}
+use Rattle.laws.proofs.Ranges.{all-made, all-same, any-same}
 use Rattle.curve.proofs.Searched.{count-most, count-some, found}
 use Rattle.rating.specs.declared.kinds.Kind.{Kind}
 use Rattle.rating.specs.declared.sheets.Rated.the-variants.{Rating, Refused}
 use Rattle.rating.specs.declared.sheets.Term.the-variants.{Given}
 use Rattle.rating.specs.Kinds.{airborne, bandsOf, limitOf, referenceOf, C, Ctr}
 use Rattle.rating.specs.Curve.{deficit, total, within, stricterBy, IsPosition, startBy, startOf, shiftedBy, shifted, firstFrom, shiftsOf, positionOf, takenOff, ratingOf}
-use Rattle.rating.specs.Terms.{lesser, greater, leastTo, greatestTo, less, weighted, airborneTerm, impactTerm}
+use Rattle.rating.specs.Terms.{leastTo, greatestTo, less, weighted, airborneTerm, impactTerm}
 use Rattle.rating.specs.Sheets.{firstBy, secondBy, sheetOf, ratedOf, asked}
 use Rattle.rating.specs.Numbers.{entriesOf, startAdd}
 use Rattle.rating.proofs.Facts.{count-of}
@@ -94,11 +95,15 @@ first-same f g zero s h = refl
 first-same f g (suc tries) s h = ap₂ (λ (b : Bool) (m : ℕ). cond b s m) (h s) (first-same f g tries (suc s) h)
 
 module _ (k : Kind) (x y : ℕ → ℤ) (same : (i : ℕ) → i < bandsOf k → x i ≡ y i) where
+  pub total-same : (p : ℤ) → total k x p ≡ total k y p
+  unfolding total
+  total-same p =
+      sum-same (λ i. deficit k p (referenceOf k i) (x i)) (λ i. deficit k p (referenceOf k i) (y i)) (bandsOf k)
+      (λ i h. ap (deficit k p (referenceOf k i)) (same i h))
+
   within-same : (p : ℤ) → within k x p ≡ within k y p
-  unfolding within total
-  within-same p = ap (λ (t : ℕ). leb t (limitOf k))
-      (sum-same (λ i. deficit k p (referenceOf k i) (x i)) (λ i. deficit k p (referenceOf k i) (y i)) (bandsOf k)
-      (λ i h. ap (deficit k p (referenceOf k i)) (same i h)))
+  unfolding within
+  within-same p = ap (λ (t : ℕ). leb t (limitOf k)) (total-same p)
 
   start-same : startOf k x ≡ startOf k y
   unfolding startOf
@@ -185,9 +190,6 @@ pub past-length : (k : Kind) (s t : BandSet) → Stated s t → ratedOf k s ≡ 
 past-length k = past-by (ratedOf k) (bandsOf k) (Refused BandCount) (λ s f. sym (wrong-count k s (bandsOf k) refl f)) (agreed k)
 
 -- ---- the same for any values in range, whatever holds them
-abbrev tenths : ℤ → Tenths
-tenths z = record { 0 = z }
-
 as-set : (ℕ → ℤ) → BandSet
 as-set x = record { values = listed (λ i. tenths (x i)) 16 0; marks = 0; len = 16 }
 

@@ -1,44 +1,29 @@
 -- The terms: a least over ℤ and its mirror, a greatest, are one least over the levels; the energies above it are the same
 -- ones, and so is the term in tenths. Assumes nothing.
-use mathlib.Core.Path.{_≡_, refl, _∙_, ap, ap₂}
-use mathlib.Core.Bool.{Bool, true, false, cond}
-use Prim.Native.Nat.{ℕ, zero, suc, _+_, _*_, _-_, _≤_, _<_, min}
+use mathlib.Core.Path.{_≡_, _∙_, ap, ap₂}
+use mathlib.Core.Bool.{Bool, true, false}
+use Prim.Native.Nat.{ℕ, zero, suc, _+_, _*_, _-_, _≤_, _<_}
 use native.Mathlib.Nat.{le-refl}
 use native.Mathlib.Omega.{arith}
 use lib.IntN.{ℤ, pos, _+ℤ_, _-ℤ_, _*ℤ_}
-use lib.Signed.{leZ}
 use Rattle.laws.specs.Parts.{P, N}
 use Rattle.laws.specs.Sums.{sumTo}
 use Rattle.laws.proofs.Extremes.{greatest-below}
-use Rattle.laws.proofs.Ints.{plus, minus, apart, times-P, times-N, eq-made, le-yes, le-no}
+use Rattle.laws.proofs.Ints.{plus, minus, apart, times-P, times-N, eq-made}
 use Rattle.laws.proofs.Sums.{sum-same}
 use Rattle.energy.specs.Energies.{F, u, levelRule}
 use Rattle.curve.specs.Levels.{minTo, leastOf, energiesOf}
 use Rattle.curve.proofs.Walks.{min-below}
-use Rattle.curve.proofs.Counted.{Up, Down}
+use Rattle.laws.proofs.Counted.{Up, Down, lesser-up, greater-down, above-up, above-down}
 use Rattle.rating.specs.declared.kinds.Kind.{Kind}
 use Rattle.rating.specs.Kinds.{bandsOf}
 use Rattle.rating.specs.Curve.{ratingOf}
-use Rattle.rating.specs.Terms.{lesser, greater, leastTo, greatestTo, less, weighted, airborneTerm, impactTerm}
+use Rattle.rating.specs.Terms.{leastTo, greatestTo, less, weighted, airborneTerm, impactTerm}
 use Rattle.rating.specs.Numbers.{ratingBy, termBy, termOf}
 
 pub u-small : (S : ℕ) → u S < 256
 unfolding u
 u-small S = greatest-below 8 (levelRule S)
-
-lesser-up : (c : ℕ) (a b : ℤ) (g h : ℕ) → Up c a g → Up c b h → Up c (lesser a b) (min g h)
-lesser-up c a b g h p q = go (leZ a b) refl
-  where
-    go : (t : Bool) → leZ a b ≡ t → Up c (cond t a b) (min g h)
-    go true e = omega (arith, le-yes a b e)
-    go false e = omega (arith, le-no a b e)
-
-greater-down : (c : ℕ) (a b : ℤ) (g h : ℕ) → Down c a g → Down c b h → Down c (greater a b) (min g h)
-greater-down c a b g h p q = go (leZ a b) refl
-  where
-    go : (t : Bool) → leZ a b ≡ t → Down c (cond t b a) (min g h)
-    go true e = omega (arith, le-yes a b e)
-    go false e = omega (arith, le-no a b e)
 
 least-up : (c : ℕ) (a : ℕ → ℤ) (g : ℕ → ℕ) (n : ℕ) → ((i : ℕ) → i < suc n → Up c (a i) (g i)) → Up c (leastTo a n) (minTo g n)
 unfolding leastTo minTo
@@ -51,13 +36,6 @@ unfolding greatestTo minTo
 greatest-down c a g zero h = h 0 (omega arith)
 greatest-down c a g (suc n) h =
     greater-down c (greatestTo a n) (a (suc n)) (minTo g n) (g (suc n)) (greatest-down c a g n (λ i q. h i (omega arith))) (h (suc n) (le-refl (suc (suc n))))
-
--- what lies above the least is the same number
-above-up : (c : ℕ) (a m : ℤ) (g l : ℕ) → Up c a g → Up c m l → l ≤ g → P (a -ℤ m) ≡ g - l
-above-up c a m g l p q h = omega (arith, minus a m, apart (a -ℤ m))
-
-above-down : (c : ℕ) (a m : ℤ) (g l : ℕ) → Down c a g → Down c m l → l ≤ g → P (m -ℤ a) ≡ g - l
-above-down c a m g l p q h = omega (arith, minus m a, apart (m -ℤ a))
 
 module _ (k : Kind) (x : ℕ → ℤ) (o p : ℕ) (some : 1 ≤ bandsOf k) where
   abbrev n : ℕ

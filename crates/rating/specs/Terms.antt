@@ -1,20 +1,12 @@
 -- Document 01, "Sums of energies": the airborne terms, the impact term, in tenths.
-use mathlib.Core.Bool.{cond}
 use Prim.Native.Nat.{ℕ, zero, suc, _-_}
 use lib.IntN.{ℤ, pos, _+ℤ_, _-ℤ_, _*ℤ_}
-use lib.Signed.{leZ}
-use Rattle.laws.specs.Parts.{P}
+use Rattle.laws.specs.Parts.{P, lesser, greater}
 use Rattle.laws.specs.Sums.{sumTo}
 use Rattle.energy.specs.Energies.{F, u}
 use Rattle.rating.specs.declared.kinds.Kind.{Kind}
 use Rattle.rating.specs.Kinds.{bandsOf}
 use Rattle.rating.specs.Curve.{ratingOf}
-
-abbrev pub lesser : ℤ → ℤ → ℤ
-lesser a b = cond (leZ a b) a b
-
-abbrev pub greater : ℤ → ℤ → ℤ
-greater a b = cond (leZ a b) b a
 
 -- the least, and the greatest, of f 0 to f n
 unfoldable pub leastTo : (ℕ → ℤ) → ℕ → ℤ

@@ -11,7 +11,7 @@
 use curve::Position;
 ghost use mathlib.Core.Path.{_≡_};
 ghost use Prim.Native.Nat.{_+_, _*_, _/_, _<_};
-ghost use Rattle.curve.specs.Bands.{anyTo, bit};
+ghost use Rattle.laws.specs.Tests.{anyTo, bit};
 ghost use Rattle.rating.specs.Kinds.{bandsOf, kindOf, kindNumber};
 ghost use Rattle.rating.specs.Numbers.{startAdd, entriesOf, firstOf, secondOf, numbersOf};
 

@@ -10,7 +10,7 @@ use native.Mathlib.Omega.{arith}
 use borrow.Author.Tests.{eq-eqb, ne-eqb, eqb-true, eqb-false}
 use lib.Dec.{T, eqb}
 use Rattle.laws.specs.Extremes.{one-if}
-use Rattle.curve.specs.Bands.{bit}
+use Rattle.laws.specs.Tests.{bit}
 
 -- the lowest bit, and a bit above it
 bit-low : (m : ℕ) → bit m 0 ≡ eqb (m % 2) 1

@@ -9,7 +9,7 @@ use native.Mathlib.Omega.{arith}
 use lib.Dec.{T}
 use lib.ListN.{length, getD}
 use Rattle.sets.specs.Masks.{filter}
-use Rattle.sets.proofs.Tests.{holds, is-true, and-left, and-right, and-both}
+use Rattle.laws.proofs.Tests.{holds, is-true, and-left, and-right, and-both}
 
 -- ---- members
 pub record Kept (ok : ℕ → Bool) (l : List ℕ) (m : ℕ) : Type 0 where

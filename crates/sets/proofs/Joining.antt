@@ -11,10 +11,10 @@ use native.Mathlib.Omega.{arith}
 use lib.Dec.{T, leb, ltb, leb→le, le→leb, ltb→lt, lt→ltb}
 use lib.Pow.{pow-mono}
 use Rattle.laws.proofs.Sums.{sum-bound}
-use Rattle.curve.specs.Bands.{bit}
+use Rattle.laws.specs.Tests.{bit}
 use Rattle.sets.specs.Masks.{choose, masksInOrder, filter}
 use Rattle.sets.specs.Gains.{gainsOf, leastOf, listedBy, byGains, joinedBy, PartOf}
-use Rattle.sets.proofs.Tests.{is-true, is-false, and-left, and-right, and-both}
+use Rattle.laws.proofs.Tests.{is-true, is-false, and-left, and-right, and-both}
 use Rattle.sets.proofs.Bits.{zero-bit, bit-past, bit-here, bit-other}
 use Rattle.sets.proofs.Filters.{filter-append}
 use Rattle.sets.proofs.Minimal.{sum-but-one, share, with-band, no-band, no-gains}

@@ -1,5 +1,4 @@
 -- Laws of sets of bands and their gains.
-pub mod Tests
 pub mod Bits
 pub mod Filters
 pub mod Order

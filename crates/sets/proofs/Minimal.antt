@@ -12,10 +12,11 @@ use borrow.Author.Tests.{eq-eqb, ne-eqb}
 use lib.Dec.{T, eqb, leb, ltb, leb→le, le→leb, ltb→lt, lt→ltb, eqb→eq, T-not, not-T}
 use Rattle.laws.specs.Sums.{sumTo}
 use Rattle.laws.proofs.Sums.{sum-same, sum-mono, sum-const}
-use Rattle.curve.specs.Bands.{allTo, bit}
+use Rattle.laws.specs.Tests.{allTo, bit}
 use Rattle.sets.specs.Masks.{part, smaller}
 use Rattle.sets.specs.Gains.{gainsOf, leastOf, listedBy}
-use Rattle.sets.proofs.Tests.{holds, one-test, and-left, and-right, and-both, all-read, all-made}
+use Rattle.laws.proofs.Tests.{holds, one-test, and-left, and-right, and-both}
+use Rattle.laws.proofs.Ranges.{all-read, all-hold}
 use Rattle.sets.proofs.Bits.{zero-bit, pack, pack-bit, pack-below, same-bits, Apart, parted}
 
 -- two sums that differ at one place only
@@ -128,7 +129,7 @@ rest-other m b i h f = pack-bit (leave m b) 16 i h ∙ ap (λ (e : Bool). bit m 
 
 rest-part : (m b : ℕ) → T (part (rest m b) m)
 unfolding part rest
-rest-part m b = all-made (λ i. not (bit (rest m b) i) || bit m i) 16
+rest-part m b = all-hold (λ i. not (bit (rest m b) i) || bit m i) 16
     (λ i h. subst (λ (d : Bool). T (not d || bit m i)) (sym (pack-bit (leave m b) 16 i h)) (kept (bit m i) (not (eqb i b))))
   where
     kept : (d e : Bool) → T (not (d && e) || d)
@@ -209,7 +210,7 @@ module _ (g : ℕ → ℕ) (need m : ℕ) (some : 0 < need) (small : (i : ℕ) �
 
   forth : T (listedBy g need m) → T least-set
   unfolding listedBy
-  forth t = all-made (λ p. not (smaller p m && reach p)) 65536 (λ p h. not-T (smaller p m && reach p) (fails p h))
+  forth t = all-hold (λ p. not (smaller p m && reach p)) 65536 (λ p h. not-T (smaller p m && reach p) (fails p h))
     where
       near : gainsOf g m 16 < need + leastOf g m 16
       near = ltb→lt (gainsOf g m 16) (need + leastOf g m 16)

@@ -9,7 +9,7 @@ use native.Mathlib.Omega.{arith}
 use borrow.Author.Tests.{eq-eqb}
 use lib.Dec.{T, eqb, ltb, ltb→lt, lt→ltb, eqb→eq}
 use Rattle.sets.specs.Masks.{bandsIn, size, earlier, before}
-use Rattle.sets.proofs.Tests.{holds, and-left, and-right, and-both}
+use Rattle.laws.proofs.Tests.{holds, and-left, and-right, and-both}
 
 or-read : (a b : Bool) → T (a || b) → T a ⊎ T b
 or-read true b t = inl t

@@ -10,7 +10,7 @@ use lib.IntN.{ℤ, _+ℤ_}
 use Rattle.laws.specs.Parts.{P, N}
 use Rattle.laws.specs.Sums.{sumTo}
 use Rattle.quantity.specs.declared.quantities.BandSet.{BandSet}
-use Rattle.curve.specs.Bands.{bit}
+use Rattle.laws.specs.Tests.{bit}
 use Rattle.curve.specs.Levels.{at, levelBy, levelAt, totalAt}
 use Rattle.rating.specs.declared.kinds.Kind.{Kind}
 use Rattle.rating.specs.Kinds.{airborne, referenceOf}

@@ -4,7 +4,7 @@ use mathlib.Core.List.{List, [], _∷_, _++_, map}
 use Prim.Native.Nat.{ℕ, zero, suc, _+_, _^_}
 use lib.Dec.{eqb, leb, ltb}
 use lib.ListN.{length}
-use Rattle.curve.specs.Bands.{allTo, bit}
+use Rattle.laws.specs.Tests.{allTo, bit}
 
 -- the bands of a set from band i on, where `left` more are looked at
 unfoldable pub bandsFrom : ℕ → ℕ → ℕ → List ℕ

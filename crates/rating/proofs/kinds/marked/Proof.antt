@@ -4,7 +4,7 @@ use mathlib.Core.Path.{_≡_, sym, _∙_, ap}
 use mathlib.Core.Bool.{not}
 use Prim.Native.Nat.{ℕ, _%_, _^_}
 use lib.Dec.{eqb}
-use Rattle.curve.specs.Bands.{anyTo, bit}
+use Rattle.laws.specs.Tests.{anyTo, bit}
 use Rattle.curve.proofs.Searched.{any-bits}
 use Rattle.rating.specs.declared.kinds.Kind.{Kind}
 use Rattle.rating.specs.Kinds.{bandsOf}
