@@ -10,4 +10,4 @@ unfoldable pub use Rattle.lift.specs.Reach.{lifted, reaches, listedMask, liftLi
 pub use Rattle.lift.specs.declared.lists.Lifted.{Lifted}
 pub use Rattle.lift.specs.Calls.{placesOf, bufferBy}
 unfoldable pub use Rattle.lift.specs.Calls.{inTargets, countOf, answerOf}
-unfoldable pub use Rattle.laws.specs.Lists.{front}
+pub use Rattle.laws.specs.Lists.{front}

@@ -39,7 +39,7 @@ use Rattle.ledger.specs.Histories.{accepted, settled, since, inUse, keys
 use Rattle.ledger.specs.Histories.Calls.{start, next, close}
 use Rattle.entry.proofs.Bands.{OneBands, bands-one}
 use Rattle.register.proofs.Dues.{due-other, place-free, place-full, held-known, unknown-held}
-use Rattle.ledger.proofs.Grown.{rated-length, value-kept, short, customer-kept, caller-key}
+use Rattle.ledger.proofs.Grown.{value-kept, short, customer-kept, caller-key}
 use Rattle.ledger.proofs.Histories.{left-grown, left-most, after-is, billed-is, taken-of, used-known, owed-left, keys-left}
 use Rattle.ledger.proofs.Moves.{closed-is}
 use Rattle.ledger.proofs.Rest.{count-without}
@@ -49,6 +49,7 @@ use Rattle.register.proofs.Seen.{Taken, Seen, seen, placed}
 use Rattle.register.proofs.Seen.Seen.{turned, retried, added}
 use Rattle.laws.proofs.Ranges.{any-some, Some}
 use Rattle.entry.proofs.Texts.{key-trans, text-made}
+use Rattle.rating.proofs.Small.{rated-by}
 
 -- ---- what lies past a stated length never matters
 module _ (r : Register) (customer : ℕ) (key : List ℕ) (k : Kind) (s t : BandSet) (price : ℕ) (same : Stated s t) where
@@ -71,7 +72,7 @@ module _ (r : Register) (customer : ℕ) (key : List ℕ) (k : Kind) (s t : Band
   }
     where
       len : s .len ≡ bandsOf k
-      len = rated-length k s sheet e
+      len = rated-by k s sheet e .len
 
   rated-past : (d : Rated) → ratedOf k s ≡ d → ratedDue d r x ≡ ratedDue d r y
   rated-past (rating.Refused refusal) e = refl
@@ -109,7 +110,7 @@ module _ (x y : Call) where
     customer = c;
     key = t;
     kind = kinds;
-    len = rated-length (x .kind) (x .set) sheet e ∙ ap bandsOf kinds ∙ sym (rated-length (y .kind) (y .set) other f);
+    len = rated-by (x .kind) (x .set) sheet e .len ∙ ap bandsOf kinds ∙ sym (rated-by (y .kind) (y .set) other f .len);
     values = λ i h. sym (value-kept (x .set) (x .kind) i h) ∙ o .values i (omega (arith, bands)) ∙ value-kept (y .set) (y .kind) i (omega (arith, ap bandsOf kinds));
     marks = sym (mod-mod (x .set .marks) (2 ^ n))
         ∙ ap (λ (m : ℕ). marksTo m (marksTo n (x .set .marks))) (sym bands)

@@ -8,7 +8,7 @@ use native.Mathlib.Nat.{zero-add}
 use native.Mathlib.Numerals.{add-one}
 use native.Mathlib.Decide.{ℕ-discrete}
 use native.Mathlib.Omega.{arith}
-use borrow.Author.Tests.{lt-ltb, le-leb, eqb-true}
+use borrow.Author.Tests.{lt-ltb, le-leb}
 use lib.Dec.{eqb}
 use lib.ListN.{length, getD, take, set, length-set, length-replicate}
 use lib.Seq.{getD-set-same, getD-set-other, getD-take, length-take-le, ext-getD}
@@ -21,19 +21,16 @@ use Rattle.quantity.specs.Keys.{keyShape}
 use Rattle.quantity.specs.Quantities.{bandOf}
 use Rattle.quantity.specs.declared.quantities.BandSet.{BandSet}
 use Rattle.quantity.specs.declared.quantities.Tenths.{Tenths}
-use Rattle.quantity.specs.declared.refusals.Refusal.the-variants.{BandCount, BandRange}
 use Rattle.quantity.proofs.Shapes.{key-shape}
-use Rattle.curve.specs.Bands.{accepted}
 use Rattle.laws.specs.Tests.{allTo, anyTo}
 use Rattle.laws.proofs.Ranges.{all-more, all-same, any-same}
 use Rattle.curve.proofs.Searched.{count-most}
 use Rattle.rating.specs.declared.kinds.Kind.{Kind}
 use Rattle.rating.specs.declared.kinds.Named.{Named}
 use Rattle.rating.specs.declared.sheets.Sheet.{Sheet}
-use Rattle.rating.specs.declared.sheets.Rated.{Rated}
-use Rattle.rating.specs.declared.sheets.Rated.the-variants.{Rating, Refused}
+use Rattle.rating.specs.declared.sheets.Rated.the-variants.{Rating}
 use Rattle.rating.specs.Kinds.{bandsOf}
-use Rattle.rating.specs.Sheets.{asked, sheetOf, ratedOf}
+use Rattle.rating.specs.Sheets.{ratedOf}
 use Rattle.rating.proofs.Facts.{count-of}
 use Rattle.rating.proofs.Numbered.{kind-of-number}
 use Rattle.rating.proofs.Theorems.{past-length}
@@ -46,6 +43,7 @@ use Rattle.ledger.proofs.Sameness.{bit-mod}
 use Rattle.register.proofs.Soundness.{all-ok, all-apart}
 use Rattle.register.proofs.Seen.{Taken, Seen, seen}
 use Rattle.register.proofs.Seen.Seen.{turned, retried, added}
+use Rattle.rating.proofs.Small.{rated-by}
 
 -- ---- the entry of a call
 
@@ -73,26 +71,13 @@ value-kept s k i h =
     ap (λ (t : Tenths). t .0) (getD-listed nought (keptValue s (bandsOf k)) 16 0 i (omega arith) ∙ ap (keptValue s (bandsOf k)) (omega arith))
     ∙ ap (λ (b : Bool). cond b (getD (s .values) i nought) nought .0) (lt-ltb i (bandsOf k) h)
 
--- a set that is rated has as many bands as its kind
-pub rated-length : (k : Kind) (s : BandSet) (sheet : Sheet) → ratedOf k s ≡ Rating sheet → s .len ≡ bandsOf k
-unfolding ratedOf
-rated-length k s sheet e = go (eqb (s .len) (bandsOf k)) refl
-  where
-    go : (b : Bool) → eqb (s .len) (bandsOf k) ≡ b → s .len ≡ bandsOf k
-    go true q = eqb-true (s .len) (bandsOf k) q
-    go false q =
-        let c : _≡_ {A = Rated} (Refused BandCount) (Rating sheet) =
-        sym (ap (λ (b : Bool). asked b (asked (accepted s (bandsOf k)) (Rating (sheetOf k s)) (Refused BandRange)) (Refused BandCount)) q) ∙ e in
-        let z : _≡_ {A = ℕ} 0 1 = cc in
-        absurd (omega arith)
-
 -- what was entered is rated as what was asked
 pub rated-kept : (x : Call) (sheet : Sheet) → ratedOf (x .kind) (x .set) ≡ Rating sheet
     → ratedOf (x .kind) (setOf (x .kind) (entryOf x)) ≡ Rating sheet
 unfolding entryOf
 rated-kept x sheet e =
     past-length (x .kind) (setOf (x .kind) (entryOf x)) (x .set) (record {
-      len = sym (rated-length (x .kind) (x .set) sheet e);
+      len = sym (rated-by (x .kind) (x .set) sheet e .len);
       values = λ i h. value-kept (x .set) (x .kind) i h;
       marks = λ i h. bit-mod (x .set .marks) (bandsOf (x .kind)) i h;
     }) ∙ e
