@@ -8,8 +8,8 @@ use lib.IntN.{ℤ, pos, _+ℤ_, _-ℤ_}
 use Rattle.laws.specs.Parts.{P, N}
 use Rattle.laws.proofs.Ints.{plus, minus, apart}
 use Rattle.quantity.specs.Quantities.{inRange}
-use Rattle.quantity.proofs.Rim.{range-read}
-use Rattle.curve.specs.Levels.{levelBy, bottom, Entries}
+use Rattle.quantity.proofs.Rim.{range-read, sum-value, difference-value}
+use Rattle.curve.specs.Levels.{levelBy, bottom, Countable, Entries}
 
 -- what the two steps to naturals ask of a band value and its entry
 pub record Counted (sign : Bool) (x : ℤ) (e : ℕ) : Type 0 where
@@ -21,24 +21,33 @@ pub record Counted (sign : Bool) (x : ℤ) (e : ℕ) : Type 0 where
 pub counted : (sign : Bool) (x : ℤ) (e : ℕ) → inRange x ≡ true → Entries sign e → Counted sign x e
 counted sign x e r h = record { low = range-read x r .0; high = range-read x r .1; base = h .low; most = h .high }
 
--- what is asked, and what is given, where the sign is known
-pub up-asks : (sign : Bool) (x : ℤ) (e : ℕ) → sign ≡ true → Counted sign x e → (N x ≤ e) × (P x + e < 2147483648)
-up-asks true x e p h = (omega (arith, h .low, h .base), omega (arith, h .high, h .most))
-up-asks false x e p h = absurd (subst T (sym p) tt)
+-- what is asked where the sign is known, and what is given
+pub up-asked : (sign : Bool) (z : ℤ) (e : ℕ) → sign ≡ true → Countable sign z e → (N z ≤ e) × (P z + e < 2147483648)
+up-asked true z e p h = h
+up-asked false z e p h = absurd (subst T (sym p) tt)
 
-pub down-asks : (sign : Bool) (x : ℤ) (e : ℕ) → sign ≡ false → Counted sign x e → (P x ≤ e) × (N x + e < 2147483648)
-down-asks true x e p h = absurd (subst T p tt)
-down-asks false x e p h = (omega (arith, h .high, h .base), omega (arith, h .low, h .most))
+pub down-asked : (sign : Bool) (z : ℤ) (e : ℕ) → sign ≡ false → Countable sign z e → (P z ≤ e) × (N z + e < 2147483648)
+down-asked true z e p h = absurd (subst T p tt)
+down-asked false z e p h = h
 
-pub up-gives : (sign : Bool) (x : ℤ) (e r : ℕ) → sign ≡ true → Counted sign x e → r + N x ≡ e + P x → r ≡ levelBy sign x e
+pub up-is : (sign : Bool) (z : ℤ) (e r : ℕ) → sign ≡ true → Countable sign z e → r + N z ≡ e + P z → r ≡ levelBy sign z e
 unfolding levelBy
-up-gives true x e r p h k = omega (arith, h .low, h .base, plus x (pos e), apart (x +ℤ pos e))
-up-gives false x e r p h k = absurd (subst T (sym p) tt)
+up-is true z e r p h d = omega (arith, sum-value z e (h .0))
+up-is false z e r p h d = absurd (subst T (sym p) tt)
 
-pub down-gives : (sign : Bool) (x : ℤ) (e r : ℕ) → sign ≡ false → Counted sign x e → r + P x ≡ e + N x → r ≡ levelBy sign x e
+pub down-is : (sign : Bool) (z : ℤ) (e r : ℕ) → sign ≡ false → Countable sign z e → r + P z ≡ e + N z → r ≡ levelBy sign z e
 unfolding levelBy
-down-gives true x e r p h k = absurd (subst T p tt)
-down-gives false x e r p h k = omega (arith, h .high, h .base, minus (pos e) x, apart (pos e -ℤ x))
+down-is true z e r p h d = absurd (subst T p tt)
+down-is false z e r p h d = omega (arith, difference-value z e (h .0))
+
+-- a band value can be counted from its entry
+pub countable : (sign : Bool) (x : ℤ) (e : ℕ) → inRange x ≡ true → Entries sign e → Countable sign x e
+countable true x e r h =
+    let c = counted true x e r h in
+    (omega (arith, c .low, c .base), omega (arith, c .high, c .most))
+countable false x e r h =
+    let c = counted false x e r h in
+    (omega (arith, c .high, c .base), omega (arith, c .low, c .most))
 
 -- and back, for the theory
 abbrev pub PartsOf : Bool → ℤ → ℕ → ℕ → Type 0

@@ -8,7 +8,7 @@ use mathlib.Core.Logic.{_⊎_}
 use Prim.Native.Nat.{ℕ, zero, suc, _+_, _*_, _-_, _/_, _≤_, _<_, min}
 use lib.IntN.{ℤ, pos, _+ℤ_, _-ℤ_}
 use lib.ListN.{length, getD}
-use Rattle.laws.specs.Parts.{P}
+use Rattle.laws.specs.Parts.{P, N}
 use Rattle.laws.specs.Sums.{sumTo}
 use Rattle.quantity.specs.Quantities.{bandOf}
 use Rattle.quantity.specs.declared.quantities.BandSet.{BandSet}
@@ -18,6 +18,11 @@ use Rattle.energy.specs.Energies.{F}
 unfoldable pub levelBy : Bool → ℤ → ℕ → ℕ
 levelBy true x entry = P (x +ℤ pos entry)
 levelBy false x entry = P (pos entry -ℤ x)
+
+-- what a step from a signed number to a natural asks
+abbrev pub Countable : Bool → ℤ → ℕ → Type 0
+Countable true z origin = (N z ≤ origin) × (P z + origin < 2147483648)
+Countable false z origin = (P z ≤ origin) × (N z + origin < 2147483648)
 
 -- an entry from which no value of a band is counted below 0
 abbrev pub bottom : Bool → ℕ

@@ -12,8 +12,7 @@ ghost use Rattle.laws.specs.Sums.{sumTo};
 ghost use Rattle.energy.specs.Energies.{Scaled};
 ghost use Rattle.quantity.specs.Quantities.{inRange};
 ghost use Rattle.curve.specs.Bands.{accepted};
-ghost use Rattle.curve.specs.Levels.{levelBy, Levels, at, totalAt, leastOf, energiesOf, Settled};
-ghost use Rattle.curve.specs.Levels.{Entries};
+ghost use Rattle.curve.specs.Levels.{levelBy, Countable, Entries, Levels, at, totalAt, leastOf, energiesOf, Settled};
 
 // Where the search ended, and how many shifts it made.
 pub struct Accepted {
@@ -46,18 +45,25 @@ pub fn all_in_range(set: BandSet, bands: usize) -> bool
     all
 }
 
-// The level of one band.
-fn level_of(value: Tenths, airborne: bool, entry: u32) -> u32
+// What a number is counted from an origin: above it for airborne, below it for impact.
+pub fn counted(z: i32, airborne: bool, origin: u32) -> u32
+    requires { ⌜ Countable airborne z origin ⌝ }
+    ensures { λ r. ⌜ r ≡ levelBy airborne z origin ⌝ }
+{
+    if airborne {
+        above(z, origin)
+    } else {
+        below(z, origin)
+    }
+}
+
+// The level of one band, counted from its entry.
+pub fn level_of(value: Tenths, airborne: bool, entry: u32) -> u32
     requires { ⌜ inRange (value .0) ≡ true ⌝ }
     requires { ⌜ Entries airborne entry ⌝ }
     ensures { λ r. ⌜ r ≡ levelBy airborne (value .0) entry ⌝ }
 {
-    let x = value.0;
-    if airborne {
-        above(x, entry)
-    } else {
-        below(x, entry)
-    }
+    counted(value.0, airborne, entry)
 }
 
 // The levels of the first `bands` bands.

@@ -11,14 +11,14 @@ use lib.IntN.{ℤ, pos, negsuc}
 use lib.ListN.{length}
 use lib.Signed.{ltZ}
 use Rattle.laws.specs.Lists.{front}
-use Rattle.laws.proofs.Ints.{lt-yes, lt-no}
+use Rattle.laws.proofs.Ints.{lt-yes, lt-no, le-true, le-false}
 use Rattle.quantity.specs.Quantities.{bandOf}
 use Rattle.quantity.specs.declared.quantities.BandSet.{BandSet}
 use Rattle.quantity.specs.declared.quantities.Decibels.{Decibels}
 use Rattle.quantity.specs.declared.refusals.Refusal.{Refusal}
 use Rattle.quantity.specs.declared.refusals.Refusal.the-variants.{BandCount, BandRange, NotBetter, TargetRange, NoRoom}
 use Rattle.curve.specs.Bands.{accepted}
-use Rattle.curve.specs.Levels.{at, levelBy, Entries}
+use Rattle.curve.specs.Levels.{at, levelBy, Entries, Countable}
 use Rattle.curve.proofs.Searched.{count-most}
 use Rattle.rating.specs.declared.kinds.Kind.{Kind}
 use Rattle.rating.specs.declared.kinds.Numbers.{Numbers}
@@ -30,13 +30,12 @@ use Rattle.rating.specs.Curve.{ratingOf}
 use Rattle.rating.specs.Numbers.{entriesOf, numbersOf, ratingAt}
 use Rattle.rating.specs.Sheets.{asked, sheetOf, ratedOf, aloneOf}
 use Rattle.rating.proofs.Facts.{count-of, entries-fit}
-use Rattle.sets.specs.Gains.{byGains, Bounded, Countable, Gained}
+use Rattle.sets.specs.Gains.{byGains, Bounded, Gained}
 use Rattle.lift.specs.declared.lists.Lifted.{Lifted}
 use Rattle.lift.specs.declared.lists.Lifted.the-variants.{Count, Refused}
 use Rattle.lift.specs.Reach.{betterBy, liftList}
 use Rattle.lift.specs.Calls.{inTargets, placesOf, countOf, answerBy, answerOf, RatedIs, LiftIs}
 use Rattle.lift.proofs.Listing.{can-count, position-small, above-limit, need-small, gains-small, list-is, list-room}
-use Rattle.laws.proofs.Ints.{le-true, le-false}
 
 -- ---- the range of targets
 pub target-low : (t : ℤ) → ltZ t (negsuc 99) ≡ true → false ≡ inTargets t

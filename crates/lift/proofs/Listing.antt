@@ -21,7 +21,7 @@ use Rattle.quantity.specs.declared.quantities.BandSet.{BandSet}
 use Rattle.quantity.proofs.Rim.{sum-value, difference-value}
 use Rattle.curve.specs.Bands.{accepted}
 use Rattle.laws.specs.Tests.{bit}
-use Rattle.curve.specs.Levels.{at, levelBy, levelAt, startAt}
+use Rattle.curve.specs.Levels.{at, levelBy, levelAt, startAt, Countable}
 use Rattle.curve.proofs.Walks.{total-most}
 use Rattle.curve.proofs.Counted.{counted, level-parts}
 use Rattle.curve.proofs.Searched.{band-in, count-most, found}
@@ -35,7 +35,7 @@ use Rattle.rating.proofs.Facts.{count-of, entries-fit}
 use Rattle.rating.proofs.Meaning.{total-is, rating-is}
 use Rattle.sets.specs.Masks.{isMask, smaller, choose, masksInOrder}
 use Rattle.sets.specs.Highest.{highest}
-use Rattle.sets.specs.Gains.{targetAt, lacking, gain, gainsOf, listedBy, byGains, Countable, Gained}
+use Rattle.sets.specs.Gains.{targetAt, lacking, gain, gainsOf, listedBy, byGains, Gained}
 use Rattle.laws.proofs.Tests.{holds, is-true, one-test, and-left, and-right}
 use Rattle.laws.proofs.Ranges.{all-same}
 use Rattle.sets.proofs.Filters.{filter-same, filter-length, each-of}

@@ -1,46 +1,18 @@
--- Numbers counted from an origin, lifted values, and the gains as the loop over the bands writes them. Assumes nothing.
-use mathlib.Core.Path.{_≡_, refl, sym, _∙_, subst}
+-- Lifted values, and the gains as the loop over the bands writes them. Assumes nothing.
+use mathlib.Core.Path.{_≡_, refl, _∙_, subst}
 use mathlib.Core.Bool.{Bool, true, false}
 use mathlib.Core.List.{List}
 use Prim.Native.Nat.{ℕ, _+_, _≤_, _<_}
 use native.Mathlib.Nat.{lt-irrefl}
 use native.Mathlib.Decide.{decLt}
 use native.Mathlib.Omega.{arith}
-use lib.Dec.{T}
 use lib.IntN.{ℤ, pos, negsuc}
 use lib.ListN.{getD, set, replicate, getD-replicate, List·getD-eq-default}
 use lib.Seq.{getD-set-other}
-use Rattle.laws.specs.Parts.{P, N}
 use Rattle.quantity.specs.Quantities.{inRange}
-use Rattle.quantity.proofs.Rim.{sum-value, difference-value}
 use Rattle.curve.specs.Levels.{levelBy, Entries}
-use Rattle.curve.proofs.Counted.{Counted, counted, up-asks, down-asks, level-parts}
+use Rattle.curve.proofs.Counted.{Counted, counted, level-parts}
 use Rattle.sets.specs.Highest.{highest}
-use Rattle.sets.specs.Gains.{Countable}
-
--- ---- counted from an origin
-pub up-asked : (sign : Bool) (z : ℤ) (e : ℕ) → sign ≡ true → Countable sign z e → (N z ≤ e) × (P z + e < 2147483648)
-up-asked true z e p h = h
-up-asked false z e p h = absurd (subst T (sym p) tt)
-
-pub down-asked : (sign : Bool) (z : ℤ) (e : ℕ) → sign ≡ false → Countable sign z e → (P z ≤ e) × (N z + e < 2147483648)
-down-asked true z e p h = absurd (subst T p tt)
-down-asked false z e p h = h
-
-pub up-is : (sign : Bool) (z : ℤ) (e r : ℕ) → sign ≡ true → Countable sign z e → r + N z ≡ e + P z → r ≡ levelBy sign z e
-unfolding levelBy
-up-is true z e r p h d = omega (arith, sum-value z e (h .0))
-up-is false z e r p h d = absurd (subst T (sym p) tt)
-
-pub down-is : (sign : Bool) (z : ℤ) (e r : ℕ) → sign ≡ false → Countable sign z e → r + P z ≡ e + N z → r ≡ levelBy sign z e
-unfolding levelBy
-down-is true z e r p h d = absurd (subst T p tt)
-down-is false z e r p h d = omega (arith, difference-value z e (h .0))
-
--- a band value can be counted from its entry
-pub countable : (sign : Bool) (x : ℤ) (e : ℕ) → inRange x ≡ true → Entries sign e → Countable sign x e
-countable true x e r h = up-asks true x e refl (counted true x e r h)
-countable false x e r h = down-asks false x e refl (counted false x e r h)
 
 -- ---- the lifted value
 pub best-in : (sign : Bool) → inRange (highest sign) ≡ true

@@ -1,13 +1,12 @@
 -- Inside the lift list: what lifting a band takes off the total of deficits at the target, and the listing by these gains.
 -- Nothing here is part of what a caller must believe: the proofs of crate `lift` show that it says the same as the definitions
 -- of its `Reach`.
-use mathlib.Core.Bool.{Bool, true, false, cond, _&&_}
+use mathlib.Core.Bool.{Bool, cond, _&&_}
 use mathlib.Core.List.{List, map}
 use mathlib.Core.Path.{_≡_}
 use Prim.Native.Nat.{ℕ, zero, suc, _+_, _*_, _-_, _^_, _≤_, _<_, min}
 use lib.Dec.{leb, ltb}
 use lib.IntN.{ℤ, _+ℤ_}
-use Rattle.laws.specs.Parts.{P, N}
 use Rattle.laws.specs.Sums.{sumTo}
 use Rattle.quantity.specs.declared.quantities.BandSet.{BandSet}
 use Rattle.laws.specs.Tests.{bit}
@@ -61,11 +60,6 @@ pub record Bounded (gains : List ℕ) (n need : ℕ) : Type 0 where
   pub bands : n ≤ 16
   pub needed : need < 1000000
   pub small : (i : ℕ) → at gains i < 10000
-
--- what a step from a signed number to a natural asks
-abbrev pub Countable : Bool → ℤ → ℕ → Type 0
-Countable true z origin = (N z ≤ origin) × (P z + origin < 2147483648)
-Countable false z origin = (P z ≤ origin) × (N z + origin < 2147483648)
 
 -- the gain of band i at position p, by the entries of a kind
 abbrev pub gainAt : Bool → BandSet → List ℕ → ℕ → ℕ → ℕ

@@ -1,36 +1,24 @@
 // What lifting each band takes off the total of deficits at a position. Values and positions are counted as the rating counts
 // them: a better band has a greater level, a stricter position a greater p, and the deficit is 10 p less the level.
 use curve::Position;
+use curve::levels::counted;
+use curve::levels::level_of;
 use quantity::BandSet;
 use quantity::Decibels;
 use quantity::Tenths;
-use quantity::signed::above;
-use quantity::signed::below;
 ghost use mathlib.Core.Path.{_≡_};
 ghost use mathlib.Core.Bool.{true};
 ghost use Prim.Native.Nat.{ℕ, _-_, _≤_, _<_};
 ghost use Rattle.quantity.specs.Quantities.{inRange};
 ghost use Rattle.curve.specs.Bands.{accepted};
-ghost use Rattle.curve.specs.Levels.{at, levelBy, Entries};
+ghost use Rattle.curve.specs.Levels.{at, levelBy, Countable, Entries};
 ghost use Rattle.sets.specs.Highest.{highest};
-ghost use Rattle.sets.specs.Gains.{Countable, Gained};
+ghost use Rattle.sets.specs.Gains.{Gained};
 
 // The gain of each band, and the total of the deficits.
 pub struct Gains {
     pub each: [u32; 16],
     pub total: u32,
-}
-
-// What a number is counted from an origin: above it for airborne, below it for impact.
-fn counted(z: i32, airborne: bool, origin: u32) -> u32
-    requires { ⌜ Countable airborne z origin ⌝ }
-    ensures { λ r. ⌜ r ≡ levelBy airborne z origin ⌝ }
-{
-    if airborne {
-        above(z, origin)
-    } else {
-        below(z, origin)
-    }
 }
 
 // The position that rates a target, the position that rates 0 dB given.
@@ -57,7 +45,7 @@ fn lacking(value: Tenths, airborne: bool, entry: u32, height: u32) -> u32
     requires { ⌜ Entries airborne entry ⌝ }
     ensures { λ r. ⌜ r ≡ height - levelBy airborne (value .0) entry ⌝ }
 {
-    short_of(height, counted(value.0, airborne, entry))
+    short_of(height, level_of(value, airborne, entry))
 }
 
 // The value of a lifted band.

@@ -1,8 +1,8 @@
--- `sets::gains::counted` meets its contract: above the origin or below it, by the sign. Assumes nothing.
+-- `curve::levels::counted` meets its contract: above the origin or below it, by the sign. Assumes nothing.
 use Rattle.quantity.proofs.Rim.{back}
-use Rattle.sets.proofs.Counting.{up-asked, down-asked, up-is, down-is}
-use Rattle.sets.proofs.gains.counted.Statement.{statement}
-use Rattle.sets.proofs.gains.counted.Tie as tie
+use Rattle.curve.proofs.Counted.{up-asked, down-asked, up-is, down-is}
+use Rattle.curve.proofs.levels.counted.Statement.{statement}
+use Rattle.curve.proofs.levels.counted.Tie as tie
 
 above-requires : tie.Need-above-requires
 above-requires c κs =
