@@ -41,7 +41,7 @@ next : (c : tie.In-loop Inv-loop μ-loop) → let l = c .before in But l (piece 
 next c =
     let l = c .before in
     let s = start l in
-    subst (But l) (larger-step (at (s .args .gains .now)) (s .args .need) (s .args .bands) (l .loop .more) (c .loop-test .taken)) (l .loop .inv)
+    subst (But l) (larger-step (at (s .args .gains .now)) (s .args .need) (s .args .bands) (l .loop .more) (omega arith)) (l .loop .inv)
 
 room : (c : tie.In-loop Inv-loop μ-loop) → c .before .loop .count + length (piece (c .before)) ≤ length (start (c .before) .args .out .now)
 room c =
@@ -78,7 +78,7 @@ put-sets-requires c κs =
     let b = c .before in
     let l = b .before in
     let s = start l in (
-      b .loop-test .taken,
+      omega arith,
       (
         no-part (at (s .args .gains .now)),
         (

@@ -49,7 +49,7 @@ listed c =
     let p = s .args .part in
     subst (λ (r : List ℕ). But (b .before) r (l .count) (l .out))
     (last-listed (at (s .args .gains .now)) (s .args .need) (s .args .bands) (p .mask) (p .sum) (p .least) (p .from) (s .pre .0) (s .pre .1 .0 .bands)
-    (l .i) (l .inv .0) (b .loop-test .taken) (b .before .before .before .before .if1 .left) (c .before .before .if2 .taken) (c .if3 .taken))
+    (l .i) (l .inv .0) (b .loop-test .taken) (b .before .before .before .before .if1 .left) (omega (arith, c .before .before .if2 .taken)) (c .if3 .taken))
     (l .inv .1)
 
 idle : (c : tie.Else3 Inv-loop μ-loop) → let l = c .before .before .before .before .before in
