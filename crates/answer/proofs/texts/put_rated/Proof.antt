@@ -1,7 +1,7 @@
 -- `answer::texts::put_rated` meets its contract. The invariant: the fields so far stand at the front, each behind its tab.
 -- Assumes nothing.
 use mathlib.Core.Path.{_≡_, refl, sym, _∙_, ap}
-use Prim.Native.Nat.{_+_, _-_, _≤_}
+use Prim.Native.Nat.{ℕ, _+_, _-_, _≤_, _<_}
 use native.Mathlib.Omega.{arith}
 use borrow.Author.Needs.{needs}
 use lib.ListN.{length, getD}
@@ -19,28 +19,27 @@ Inv-loop out₀ fields at₀ i₀ out at i = (i ≤ 6) × (at ≡ length (done f
 abbrev μ-loop : tie.MeasureT-loop
 μ-loop out₀ fields at₀ i₀ out at i = 6 - i
 
-fields-of-requires : tie.Need-fields-of-requires Inv-loop μ-loop
-fields-of-requires c κs = search needs
-
--- the fields are as long as the room that there is for them
+-- the fields have room: those so far, each with the one behind it, and a byte more
 room : (c : tie.After-fields-of Inv-loop μ-loop) → length (others (textsOf (c .fields-of .result))) ≤ length (c .before .before .args .out .now)
 room c = omega (arith, ap (λ t. length (others t)) (c .fields-of .ensures .0), c .before .before .pre)
 
--- at a turn: the tail behind the fields so far lies within, and the next field has room in it
-at-within : (c : tie.In-loop Inv-loop μ-loop) → c .before .loop .at ≤ length (c .before .loop .out)
-at-within c =
-    let w = c .before .loop in
-    let f = c .before .before in
-    tail-within (done (f .fields-of .result) (w .i)) (f .before .before .args .out .now) (w .at) (w .inv .2) (w .inv .1)
-    (omega (arith, done-within (f .fields-of .result) (f .before .before .args .out .now) (room f) (w .i)))
+within : (c : tie.After-fields-of Inv-loop μ-loop) (i : ℕ) → length (done (c .fields-of .result) i) < length (c .before .before .args .out .now)
+within c = done-within (c .fields-of .result) (c .before .before .args .out .now) (room c)
 
-next-length : (c : tie.In-loop Inv-loop μ-loop) → let w = c .before .loop in
-    let fs = c .before .before .fields-of .result in
-    length (done fs (w .i + 1)) ≡ length (done fs (w .i)) + length (tabbed (fieldTexts (getD fs (w .i) (Number (pos 0)))))
+next-length : (c : tie.In-loop Inv-loop μ-loop) → length (done (c .before .before .fields-of .result) (c .before .loop .i + 1))
+    ≡ length (done (c .before .before .fields-of .result) (c .before .loop .i)) + length (tabbed (fieldTexts (getD (c .before .before .fields-of .result) (c .before .loop .i) (Number (pos 0)))))
 next-length c =
-    let w = c .before .loop in
     let f = c .before .before in
-    more-length (f .fields-of .result) (f .before .before .args .out .now) (room f) (Number (pos 0)) (w .i) (omega (arith, f .fields-of .ensures .1))
+    more-length (f .fields-of .result) (f .before .before .args .out .now) (room f) (Number (pos 0)) (c .before .loop .i) (omega (arith, f .fields-of .ensures .1))
+
+-- at a turn: the tail behind the fields so far lies within, and is as long as what is left
+tail-in : (c : tie.In-loop Inv-loop μ-loop) → c .before .loop .at ≤ length (c .before .loop .out)
+tail-in c =
+    let w = c .before .loop in
+    tail-within (done (c .before .before .fields-of .result) (w .i)) (c .before .before .before .before .args .out .now) (w .at) (w .inv .2) (w .inv .1) (omega (arith, within (c .before .before) (w .i)))
+
+fields-of-requires : tie.Need-fields-of-requires Inv-loop μ-loop
+fields-of-requires c κs = search needs
 
 loop-holds : tie.Need-loop-holds Inv-loop μ-loop
 unfolding tabbed textsOf
@@ -53,10 +52,10 @@ array-copy-out-field : tie.Need-array-copy-out-field Inv-loop μ-loop
 array-copy-out-field c = omega arith
 
 sub-put-field : tie.Need-sub-put-field Inv-loop μ-loop
-sub-put-field c = at-within (c .before)
+sub-put-field c = tail-in (c .before)
 
 part-put-field-start : tie.Need-part-put-field-start Inv-loop μ-loop
-part-put-field-start c = at-within (c .before)
+part-put-field-start c = tail-in (c .before)
 
 part-put-field-end : tie.Need-part-put-field-end Inv-loop μ-loop
 part-put-field-end c = search needs
@@ -64,26 +63,18 @@ part-put-field-end c = search needs
 put-field-requires : tie.Need-put-field-requires Inv-loop μ-loop
 put-field-requires c κs =
     let t = c .before .before in
-    let w = t .before .loop in
-    let f = t .before .before in
-    let l = f .before .before .args .out .now in
+    let v = t .before .loop in
     omega (
       arith,
       next-length t,
-      done-within (f .fields-of .result) l (room f) (w .i + 1),
-      tail-length (done (f .fields-of .result) (w .i)) l (w .at) (w .inv .2) (w .inv .1) (omega (arith, done-within (f .fields-of .result) l (room f) (w .i))),
+      within (t .before .before) (v .i + 1),
+      tail-length (done (t .before .before .fields-of .result) (v .i)) (t .before .before .before .before .args .out .now) (v .at) (v .inv .2) (v .inv .1) (omega (arith, within (t .before .before) (v .i))),
     )
 
 add-at : tie.Need-add-at Inv-loop μ-loop
 add-at c =
-    let t = c .before .before .before .before .before in
-    let f = t .before .before in
-    omega (
-      arith,
-      c .before .before .put-field .ensures .0,
-      next-length t,
-      done-within (f .fields-of .result) (f .before .before .args .out .now) (room f) (t .before .loop .i + 1),
-    )
+    let l = c .before .before .before .before .before in
+    omega (arith, c .before .before .put-field .ensures .0, next-length l, within (l .before .before) (l .before .loop .i + 1))
 
 add-i : tie.Need-add-i Inv-loop μ-loop
 add-i c = omega arith
@@ -93,30 +84,30 @@ loop-less c = omega arith
 
 loop-again : tie.Need-loop-again Inv-loop μ-loop
 loop-again c =
-    let t = c .before .before .before .before .before in
-    let w = t .before .loop in
-    let f = t .before .before in
+    let h = c .before .before .before .before .before .before in
+    let g = h .before in
     let d = c .before .before .put-field in (
       omega arith,
-      omega (arith, next-length t, d .ensures .0),
-      field-home (f .fields-of .result) (f .before .before .args .out .now) (room f) (Number (pos 0)) (w .i) (w .at) (omega (arith, f .fields-of .ensures .1)) (w .inv .1) (w .inv .2) (d .ensures .1),
+      omega (arith, next-length (c .before .before .before .before .before), d .ensures .0),
+      field-home (g .fields-of .result) (g .before .before .args .out .now) (room g) (Number (pos 0)) (h .loop .i) (h .loop .at) (omega (arith, g .fields-of .ensures .1)) (h .loop .inv .1) (h .loop .inv .2) (d .ensures .1),
     )
 
 slice-write-out : tie.Need-slice-write-out Inv-loop μ-loop
 slice-write-out c =
-    let w = c .before .loop in
-    let f = c .before .before in
-    let l = f .before .before .args .out .now in
-    let h = done-within (f .fields-of .result) l (room f) (w .i) in
-    omega (arith, ap length (w .inv .2) ∙ front-length (done (f .fields-of .result) (w .i)) l (omega arith))
+    omega (
+      arith,
+      within (c .before .before) (c .before .loop .i),
+      ap length (c .before .loop .inv .2)
+          ∙ front-length (done (c .before .before .fields-of .result) (c .before .loop .i)) (c .before .before .before .before .args .out .now)
+          (omega (arith, within (c .before .before) (c .before .loop .i))),
+    )
 
 returns : tie.Need-returns Inv-loop μ-loop
 returns c =
-    let w = c .before .loop in
-    let f = c .before .before in
-    let l = f .before .before .args .out .now in
-    line-home (f .fields-of .result) l (room f) (w .i) (w .at) (omega (arith, f .fields-of .ensures .1)) (w .inv .1) (w .inv .2)
-    ∙ ap (λ t. front (others t) l) (f .fields-of .ensures .0)
+    let e = c .before in
+    let k = e .before in
+    line-home (k .fields-of .result) (k .before .before .args .out .now) (room k) (e .loop .i) (e .loop .at) (omega (arith, k .fields-of .ensures .1)) (e .loop .inv .1) (e .loop .inv .2)
+    ∙ ap (λ t. front (others t) (k .before .before .args .out .now)) (k .fields-of .ensures .0)
 
 same-length : tie.Need-same-length Inv-loop μ-loop
 same-length c =
