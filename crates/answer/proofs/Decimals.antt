@@ -71,10 +71,3 @@ digits-most (suc k) n l = go (ltb n 10) refl (digits-most k (n / 10) (omega (ari
     go true e r = omega (arith, ap length (decimal-one n (ltb-true n 10 e)))
     go false e r =
         omega (arith, ap length (decimal-more n (ltb-false n 10 e)), length-append (decimal (n / 10)) (digit (n % 10) ∷ []))
-
-pub digits-some : (n : ℕ) → 1 ≤ length (decimal n)
-digits-some n = go (ltb n 10) refl
-  where
-    go : (t : Bool) → ltb n 10 ≡ t → 1 ≤ length (decimal n)
-    go true e = omega (arith, ap length (decimal-one n (ltb-true n 10 e)))
-    go false e = omega (arith, ap length (decimal-more n (ltb-false n 10 e)), length-append (decimal (n / 10)) (digit (n % 10) ∷ []))

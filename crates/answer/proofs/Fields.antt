@@ -2,7 +2,7 @@
 -- Assumes nothing.
 use mathlib.Core.Path.{_≡_, refl, sym, _∙_, ap}
 use mathlib.Core.List.{List, [], _∷_, _++_, append-assoc, append-nil}
-use Prim.Native.Nat.{ℕ, suc, _+_, _-_, _≤_, _<_}
+use Prim.Native.Nat.{ℕ, _+_, _-_, _≤_, _<_}
 use native.Mathlib.Omega.{arith}
 use native.Mathlib.Numerals.{add-one}
 use lib.IntN.{ℤ}
@@ -90,8 +90,8 @@ module _ (fs : List Field) (l : List ℕ) (room : length (others (textsOf fs)) �
       ∙ ap tabbed (texts-append (take i fs) (getD fs i d ∷ []) ∙ ap (λ (r : List (List ℕ)). textsOf (take i fs) ++ r) (texts-one (getD fs i d)))
       ∙ tabbed-append (textsOf (take i fs)) (fieldTexts (getD fs i d))
 
-  pub more-length : (d : Field) (i : ℕ) → i < length fs → length (done fs (i + 1)) ≡ length (done fs i) + length (tabbed (fieldTexts (getD fs i d)))
-  more-length d i h = ap length (done-more d i h) ∙ length-append (done fs i) (tabbed (fieldTexts (getD fs i d)))
+  pub done-length : (d : Field) (i : ℕ) → i < length fs → length (done fs (i + 1)) ≡ length (done fs i) + length (tabbed (fieldTexts (getD fs i d)))
+  done-length d i h = ap length (done-more d i h) ∙ length-append (done fs i) (tabbed (fieldTexts (getD fs i d)))
 
   -- a turn: a field comes home behind those before it
   pub field-home : (d : Field) (i at : ℕ) {xs ys : List ℕ} → i < length fs → at ≡ length (done fs i) → xs ≡ front (done fs i) l

@@ -1,6 +1,6 @@
 -- `answer::texts::put_rated` meets its contract. The invariant: the fields so far stand at the front, each behind its tab.
 -- Assumes nothing.
-use mathlib.Core.Path.{_≡_, refl, sym, _∙_, ap}
+use mathlib.Core.Path.{_≡_, refl, _∙_, ap}
 use Prim.Native.Nat.{ℕ, _+_, _-_, _≤_, _<_}
 use native.Mathlib.Omega.{arith}
 use borrow.Author.Needs.{needs}
@@ -9,7 +9,7 @@ use lib.IntN.{pos}
 use Rattle.answer.specs.declared.texts.Field.the-variants.{Number}
 use Rattle.answer.specs.Texts.{front, others, fieldsOf, fieldTexts, textsOf, tabbed}
 use Rattle.answer.proofs.Fronts.{front-length, tail-within, tail-length}
-use Rattle.answer.proofs.Fields.{done, done-within, more-length, field-home, line-home}
+use Rattle.answer.proofs.Fields.{done, done-within, done-length, field-home, line-home}
 use Rattle.answer.proofs.texts.put_rated.Statement.{statement}
 use Rattle.answer.proofs.texts.put_rated.Tie as tie
 
@@ -30,9 +30,9 @@ next-length : (c : tie.In-loop Inv-loop μ-loop) → length (done (c .before .be
     ≡ length (done (c .before .before .fields-of .result) (c .before .loop .i)) + length (tabbed (fieldTexts (getD (c .before .before .fields-of .result) (c .before .loop .i) (Number (pos 0)))))
 next-length c =
     let f = c .before .before in
-    more-length (f .fields-of .result) (f .before .before .args .out .now) (room f) (Number (pos 0)) (c .before .loop .i) (omega (arith, f .fields-of .ensures .1))
+    done-length (f .fields-of .result) (f .before .before .args .out .now) (room f) (Number (pos 0)) (c .before .loop .i) (omega (arith, f .fields-of .ensures .1))
 
--- at a turn: the tail behind the fields so far lies within, and is as long as what is left
+-- at a turn: the tail behind the fields so far lies within
 tail-in : (c : tie.In-loop Inv-loop μ-loop) → c .before .loop .at ≤ length (c .before .loop .out)
 tail-in c =
     let w = c .before .loop in
