@@ -9,13 +9,13 @@ use native.Mathlib.Omega.{arith}
 use borrow.Author.Tests.{lt-ltb, le-ltb, ltb-true, ltb-false}
 use lib.Dec.{ltb}
 use lib.ListN.{length, length-append}
-use Rattle.answer.specs.Texts.{decimal, decimalBy}
+use Rattle.answer.specs.Texts.{digit, decimal, decimalBy}
 
-by-one : (more n : ℕ) → n < 10 → decimalBy (suc more) n ≡ (48 + n) ∷ []
+by-one : (more n : ℕ) → n < 10 → decimalBy (suc more) n ≡ digit n ∷ []
 unfolding decimalBy
 by-one more n h = rw (lt-ltb n 10 h, decimalBy)
 
-by-more : (more n : ℕ) → 10 ≤ n → decimalBy (suc more) n ≡ decimalBy more (n / 10) ++ ((48 + n % 10) ∷ [])
+by-more : (more n : ℕ) → 10 ≤ n → decimalBy (suc more) n ≡ decimalBy more (n / 10) ++ (digit (n % 10) ∷ [])
 unfolding decimalBy
 by-more more n h = rw (le-ltb n 10 h, decimalBy)
 
@@ -27,22 +27,22 @@ fuels (suc f) (suc g) n h k = go (ltb n 10) refl (λ (j : 10 ≤ n). fuels f g (
     go : (t : Bool) → ltb n 10 ≡ t → (10 ≤ n → decimalBy f (n / 10) ≡ decimalBy g (n / 10)) → decimalBy (suc f) n ≡ decimalBy (suc g) n
     go true e r = by-one f n (ltb-true n 10 e) ∙ sym (by-one g n (ltb-true n 10 e))
     go false e r =
-        by-more f n (ltb-false n 10 e) ∙ ap (λ (l : List ℕ). l ++ ((48 + n % 10) ∷ [])) (r (ltb-false n 10 e)) ∙ sym (by-more g n (ltb-false n 10 e))
+        by-more f n (ltb-false n 10 e) ∙ ap (λ (l : List ℕ). l ++ (digit (n % 10) ∷ [])) (r (ltb-false n 10 e)) ∙ sym (by-more g n (ltb-false n 10 e))
 
-pub decimal-one : (n : ℕ) → n < 10 → decimal n ≡ (48 + n) ∷ []
+pub decimal-one : (n : ℕ) → n < 10 → decimal n ≡ digit n ∷ []
 unfolding decimal
 decimal-one n h = by-one n n h
 
-pub decimal-more : (n : ℕ) → 10 ≤ n → decimal n ≡ decimal (n / 10) ++ ((48 + n % 10) ∷ [])
+pub decimal-more : (n : ℕ) → 10 ≤ n → decimal n ≡ decimal (n / 10) ++ (digit (n % 10) ∷ [])
 unfolding decimal
 decimal-more n h =
-    by-more n n h ∙ ap (λ (l : List ℕ). l ++ ((48 + n % 10) ∷ [])) (fuels n (suc (n / 10)) (n / 10) (omega arith) (omega arith))
+    by-more n n h ∙ ap (λ (l : List ℕ). l ++ (digit (n % 10) ∷ [])) (fuels n (suc (n / 10)) (n / 10) (omega arith) (omega arith))
 
-pub decimal-step : (a b : ℕ) → 0 < a → b < 10 → decimal (10 * a + b) ≡ decimal a ++ ((48 + b) ∷ [])
+pub decimal-step : (a b : ℕ) → 0 < a → b < 10 → decimal (10 * a + b) ≡ decimal a ++ (digit b ∷ [])
 decimal-step a b h k =
     decimal-more (10 * a + b) (omega arith)
-    ∙ ap (λ (n : ℕ). decimal n ++ ((48 + (10 * a + b) % 10) ∷ [])) (tenth a b k)
-    ∙ ap (λ (n : ℕ). decimal a ++ ((48 + n) ∷ [])) (unit a b k)
+    ∙ ap (λ (n : ℕ). decimal n ++ (digit ((10 * a + b) % 10) ∷ [])) (tenth a b k)
+    ∙ ap (λ (n : ℕ). decimal a ++ (digit n ∷ [])) (unit a b k)
   where
     tenth : (a b : ℕ) → b < 10 → (10 * a + b) / 10 ≡ a
     tenth a b k = omega arith
@@ -56,7 +56,7 @@ digits-are zero n h l = sym (ap length (decimal-one n l))
 digits-are (suc k) n h l =
     let big : 10 ≤ n = omega (arith, positive k, pow-suc 10 k) in
     let rest : suc k ≡ length (decimal (n / 10)) = digits-are k (n / 10) (omega (arith, pow-suc 10 k)) (omega (arith, pow-suc 10 (suc k))) in
-    sym (ap length (decimal-more n big) ∙ length-append (decimal (n / 10)) ((48 + n % 10) ∷ []) ∙ omega arith)
+    sym (ap length (decimal-more n big) ∙ length-append (decimal (n / 10)) (digit (n % 10) ∷ []) ∙ omega arith)
   where
     positive : (k : ℕ) → 1 ≤ 10 ^ k
     positive zero = omega arith
@@ -70,11 +70,4 @@ digits-most (suc k) n l = go (ltb n 10) refl (digits-most k (n / 10) (omega (ari
     go : (t : Bool) → ltb n 10 ≡ t → length (decimal (n / 10)) ≤ suc k → length (decimal n) ≤ suc (suc k)
     go true e r = omega (arith, ap length (decimal-one n (ltb-true n 10 e)))
     go false e r =
-        omega (arith, ap length (decimal-more n (ltb-false n 10 e)), length-append (decimal (n / 10)) ((48 + n % 10) ∷ []))
-
-pub digits-some : (n : ℕ) → 1 ≤ length (decimal n)
-digits-some n = go (ltb n 10) refl
-  where
-    go : (t : Bool) → ltb n 10 ≡ t → 1 ≤ length (decimal n)
-    go true e = omega (arith, ap length (decimal-one n (ltb-true n 10 e)))
-    go false e = omega (arith, ap length (decimal-more n (ltb-false n 10 e)), length-append (decimal (n / 10)) ((48 + n % 10) ∷ []))
+        omega (arith, ap length (decimal-more n (ltb-false n 10 e)), length-append (decimal (n / 10)) (digit (n % 10) ∷ []))

@@ -6,7 +6,7 @@ use native.Mathlib.Omega.{arith}
 use lib.ListN.{length, take, drop, set, length-append, length-drop}
 use lib.Seq.{drop-cons, set-at, take-at, drop-at, drop-drop, take-all}
 use borrow.Rule.Slice.PartMut.{putMid, midOf, postOf}
-use Rattle.laws.specs.Lists.{front}
+use Rattle.answer.specs.Texts.{front}
 
 snoc-length : (t : List ℕ) (v : ℕ) → length (t ++ (v ∷ [])) ≡ suc (length t)
 snoc-length t v = length-append t (v ∷ []) ∙ omega arith

@@ -1,4 +1,5 @@
--- Laws of answers: decimal texts, texts at the front of a buffer, and what the field writers leave.
+-- Laws of answers: decimal texts, texts at the front of a buffer, fields one after another, and what the field writers leave.
 pub mod Decimals
+pub mod Fields
 pub mod Fronts
 pub mod Writers

@@ -14,10 +14,9 @@ use Rattle.quantity.specs.Refusals.{numberOf}
 use Rattle.quantity.specs.declared.refusals.Refusal.{Refusal}
 use Rattle.quantity.specs.declared.refusals.Refusal.the-variants.{BandCount, NotFinite, NoReading, BandRange, Background, DerivedRange, TimeRange, NotBetter, TargetRange, NoRoom, NotRequest, SpecimenCount, PriceRange, OtherBands, RegisterFull, RegisterDamaged}
 use Rattle.rating.specs.declared.sheets.Sheet.{Sheet}
-use Rattle.answer.specs.Texts.{others, lineText, decimal, numberText, termText, setText, sheetFields, noRequestText}
-use Rattle.laws.specs.Lists.{front}
+use Rattle.answer.specs.Texts.{tab, hyphen, digit, others, lineText, decimal, numberText, termText, setText, sheetFields, noRequestText, front}
 use Rattle.answer.proofs.Decimals.{decimal-one, decimal-more}
-use Rattle.laws.proofs.Fronts.{front-more, front-length}
+use Rattle.answer.proofs.Fronts.{front-more, front-length}
 
 pub stored1 : (l : List ℕ) (x : ℕ) → 1 ≤ length l → set l 0 x ≡ front (x ∷ []) l
 stored1 l x h = front-more [] l 0 x refl h
@@ -43,11 +42,11 @@ unfolding noRequestText lineText others decimal Rattle.answer.specs.Text
 none-length = refl
 
 -- digits
-pub digits-one : (n : ℕ) (l : List ℕ) → n < 10 → 1 ≤ length l → set l 0 (48 + n) ≡ front (decimal n) l
-digits-one n l h k = stored1 l (48 + n) k ∙ ap (λ (t : List ℕ). front t l) (sym (decimal-one n h))
+pub digits-one : (n : ℕ) (l : List ℕ) → n < 10 → 1 ≤ length l → set l 0 (digit n) ≡ front (decimal n) l
+digits-one n l h k = stored1 l (digit n) k ∙ ap (λ (t : List ℕ). front t l) (sym (decimal-one n h))
 
-two-digits : (n : ℕ) → 10 ≤ n → n < 100 → decimal n ≡ (48 + n / 10) ∷ (48 + n % 10) ∷ []
-two-digits n h k = decimal-more n h ∙ ap (λ (t : List ℕ). t ++ ((48 + n % 10) ∷ [])) (decimal-one (n / 10) (omega arith))
+two-digits : (n : ℕ) → 10 ≤ n → n < 100 → decimal n ≡ digit (n / 10) ∷ digit (n % 10) ∷ []
+two-digits n h k = decimal-more n h ∙ ap (λ (t : List ℕ). t ++ (digit (n % 10) ∷ [])) (decimal-one (n / 10) (omega arith))
 
 pub two-length : (n : ℕ) → 10 ≤ n → n < 100 → 2 ≡ length (decimal n)
 two-length n h k = sym (ap length (two-digits n h k))
@@ -55,21 +54,21 @@ two-length n h k = sym (ap length (two-digits n h k))
 pub one-length : (n : ℕ) → n < 10 → 1 ≡ length (decimal n)
 one-length n h = sym (ap length (decimal-one n h))
 
-pub digits-two : (n : ℕ) (l : List ℕ) → 10 ≤ n → n < 100 → 2 ≤ length l → set (set l 0 (48 + n / 10)) 1 (48 + n % 10) ≡ front (decimal n) l
-digits-two n l h k m = stored2 l (48 + n / 10) (48 + n % 10) m ∙ ap (λ (t : List ℕ). front t l) (sym (two-digits n h k))
+pub digits-two : (n : ℕ) (l : List ℕ) → 10 ≤ n → n < 100 → 2 ≤ length l → set (set l 0 (digit (n / 10))) 1 (digit (n % 10)) ≡ front (decimal n) l
+digits-two n l h k m = stored2 l (digit (n / 10)) (digit (n % 10)) m ∙ ap (λ (t : List ℕ). front t l) (sym (two-digits n h k))
 
 pub more-length : (n : ℕ) → 10 ≤ n → length (decimal n) ≡ length (decimal (n / 10)) + 1
-more-length n h = ap length (decimal-more n h) ∙ length-append (decimal (n / 10)) ((48 + n % 10) ∷ [])
+more-length n h = ap length (decimal-more n h) ∙ length-append (decimal (n / 10)) (digit (n % 10) ∷ [])
 
 pub digits-more : (n k : ℕ) (l r : List ℕ) → 10 ≤ n → k ≡ length (decimal (n / 10)) → r ≡ front (decimal (n / 10)) l → length (decimal n) ≤ length l
-    → set r k (48 + n % 10) ≡ front (decimal n) l
+    → set r k (digit (n % 10)) ≡ front (decimal n) l
 digits-more n k l r h e f m =
-    ap (λ (x : List ℕ). set x k (48 + n % 10)) f
-    ∙ front-more (decimal (n / 10)) l k (48 + n % 10) e (omega (arith, more-length n h))
+    ap (λ (x : List ℕ). set x k (digit (n % 10))) f
+    ∙ front-more (decimal (n / 10)) l k (digit (n % 10)) e (omega (arith, more-length n h))
     ∙ ap (λ (t : List ℕ). front t l) (sym (decimal-more n h))
 
 -- numbers
-pub number-below : (z : ℤ) → 0 < N z → numberText z ≡ 45 ∷ decimal (N z)
+pub number-below : (z : ℤ) → 0 < N z → numberText z ≡ hyphen ∷ decimal (N z)
 unfolding numberText
 number-below (pos n) h = absurd (omega arith)
 number-below (negsuc n) h = refl
@@ -149,7 +148,7 @@ sheet-length s =
     let f1 : List (List ℕ) = numberText (s .rating .0) ∷ f2 in
     omega (
       arith,
-      others-length (48 ∷ []) f1,
+      others-length (digit 0 ∷ []) f1,
       others-length (numberText (s .rating .0)) f2,
       others-length (numberText (s .first .0)) f3,
       others-length (termText (s .second)) f4,
@@ -162,24 +161,9 @@ sheet-length s =
 pub refused-length : (n : ℕ) → length (others (decimal n ∷ [])) ≡ 2 + length (decimal n)
 refused-length n = omega (arith, others-length (decimal n) [], end-length)
 
--- a field behind a tab, and what stands behind it
-pub field-front : (f : List ℕ) (fs : List (List ℕ)) (l : List ℕ) {xs : List ℕ} → xs ≡ front ((9 ∷ f) ++ others fs) l → xs ≡ front (others (f ∷ fs)) l
-unfolding others
-field-front f fs l e = e
+-- a number behind a tab
+pub number-front : (z : ℤ) (l : List ℕ) {xs : List ℕ} → 0 < N z → xs ≡ front (tab ∷ hyphen ∷ decimal (N z)) l → xs ≡ front (tab ∷ numberText z) l
+number-front z l h e = e ∙ ap (λ (t : List ℕ). front (tab ∷ t) l) (sym (number-below z h))
 
-pub end-front : (f l : List ℕ) {xs : List ℕ} (k : ℕ) → xs ≡ front (9 ∷ f) l → k ≡ 1 + length f → length (others (f ∷ [])) ≤ length l → set xs k 10 ≡ front (others (f ∷ [])) l
-unfolding others
-end-front f l k e g h =
-    ap (λ (r : List ℕ). set r k 10) e ∙ front-more (9 ∷ f) l k 10 (omega arith) (omega (arith, length-append f (10 ∷ [])))
-
-pub mark-front : (t : Bool) (m : ℕ) (l : List ℕ) → setText t ≡ m ∷ [] → length (others (setText t ∷ [])) ≤ length l → set (set (set l 0 9) 1 m) 2 10 ≡ front (others (setText t ∷ [])) l
-unfolding others
-mark-front t m l e h =
-    stored3 l 9 m 10 (omega (arith, ap (λ (x : List ℕ). length (9 ∷ (x ++ (10 ∷ [])))) e))
-    ∙ ap (λ (x : List ℕ). front (9 ∷ (x ++ (10 ∷ []))) l) (sym e)
-
-pub number-front : (z : ℤ) (l : List ℕ) {xs : List ℕ} → 0 < N z → xs ≡ front (9 ∷ 45 ∷ decimal (N z)) l → xs ≡ front (9 ∷ numberText z) l
-number-front z l h e = e ∙ ap (λ (t : List ℕ). front (9 ∷ t) l) (sym (number-below z h))
-
-pub count-front : (z : ℤ) (l : List ℕ) {xs : List ℕ} → N z ≡ 0 → xs ≡ front (9 ∷ decimal (P z)) l → xs ≡ front (9 ∷ numberText z) l
-count-front z l h e = e ∙ ap (λ (t : List ℕ). front (9 ∷ t) l) (sym (number-above z h))
+pub count-front : (z : ℤ) (l : List ℕ) {xs : List ℕ} → N z ≡ 0 → xs ≡ front (tab ∷ decimal (P z)) l → xs ≡ front (tab ∷ numberText z) l
+count-front z l h e = e ∙ ap (λ (t : List ℕ). front (tab ∷ t) l) (sym (number-above z h))

@@ -13,11 +13,30 @@ use Rattle.rating.specs.declared.sheets.Term.the-variants.{Given, Absent}
 use Rattle.rating.specs.declared.sheets.Sheet.{Sheet}
 use Rattle.rating.specs.declared.sheets.Rated.{Rated}
 use Rattle.rating.specs.declared.sheets.Rated.the-variants.{Rating, Refused}
+use Rattle.answer.specs.declared.texts.Field.{Field}
+use Rattle.answer.specs.declared.texts.Field.the-variants.{Number, Count, Sign, Nothing}
+
+-- the bytes of lines
+abbrev pub tab : ℕ
+tab = 9
+
+abbrev pub lineFeed : ℕ
+lineFeed = 10
+
+abbrev pub hyphen : ℕ
+hyphen = 45
+
+abbrev pub point : ℕ
+point = 46
+
+-- the digit of a number below ten
+abbrev pub digit : ℕ → ℕ
+digit n = 48 + n
 
 -- "parted by tabs, ended by a line feed": the first field, then the others
 unfoldable pub others : List (List ℕ) → List ℕ
-others [] = 10 ∷ []
-others (f ∷ fs) = 9 ∷ (f ++ others fs)
+others [] = lineFeed ∷ []
+others (f ∷ fs) = tab ∷ (f ++ others fs)
 
 unfoldable pub lineText : List ℕ → List (List ℕ) → List ℕ
 lineText f fs = f ++ others fs
@@ -25,7 +44,7 @@ lineText f fs = f ++ others fs
 -- a number in decimal, without needless zeros; it has at most so many digits
 unfoldable pub decimalBy : ℕ → ℕ → List ℕ
 decimalBy zero n = []
-decimalBy (suc more) n = elim (ltb n 10) [ true ↦ (48 + n) ∷ [] | false ↦ decimalBy more (n / 10) ++ ((48 + n % 10) ∷ []) ]
+decimalBy (suc more) n = elim (ltb n 10) [ true ↦ digit n ∷ [] | false ↦ decimalBy more (n / 10) ++ (digit (n % 10) ∷ []) ]
 
 unfoldable pub decimal : ℕ → List ℕ
 decimal n = decimalBy (suc n) n
@@ -33,42 +52,28 @@ decimal n = decimalBy (suc n) n
 -- a minus where it is negative
 unfoldable pub numberText : ℤ → List ℕ
 numberText (pos n) = decimal n
-numberText (negsuc n) = 45 ∷ decimal (suc n)
+numberText (negsuc n) = hyphen ∷ decimal (suc n)
 
--- the two letters of a kind
+-- the two letters of a kind: 65 is A, 73 is I
 abbrev pub kindText : Kind → List ℕ
-kindText A3 = 65 ∷ 51 ∷ []
-kindText A1 = 65 ∷ 49 ∷ []
-kindText I3 = 73 ∷ 51 ∷ []
-kindText I1 = 73 ∷ 49 ∷ []
+kindText A3 = 65 ∷ digit 3 ∷ []
+kindText A1 = 65 ∷ digit 1 ∷ []
+kindText I3 = 73 ∷ digit 3 ∷ []
+kindText I1 = 73 ∷ digit 1 ∷ []
 
--- "Answer: kind, key, 0, rating, first term, second term (`-` for impact), shifts, mark (`=` or `L`)."
+-- "Answer: kind, key, 0, rating, first term, second term (`-` for impact), shifts, mark (`=` or `L`).": what follows the key
 unfoldable pub termText : Term → List ℕ
 termText (Given d) = numberText (d .0)
-termText Absent = 45 ∷ []
+termText Absent = hyphen ∷ []
 
+-- 76 is L, 61 is =
 abbrev pub setText : Bool → List ℕ
 setText true = 76 ∷ []
 setText false = 61 ∷ []
 
--- what follows the key, from each field on
-abbrev pub markFields : Sheet → List (List ℕ)
-markFields s = setText (s .limit) ∷ []
-
-abbrev pub shiftsFields : Sheet → List (List ℕ)
-shiftsFields s = decimal (s .shifts) ∷ markFields s
-
-abbrev pub secondFields : Sheet → List (List ℕ)
-secondFields s = termText (s .second) ∷ shiftsFields s
-
-abbrev pub firstFields : Sheet → List (List ℕ)
-firstFields s = numberText (s .first .0) ∷ secondFields s
-
-abbrev pub ratingFields : Sheet → List (List ℕ)
-ratingFields s = numberText (s .rating .0) ∷ firstFields s
-
 abbrev pub sheetFields : Sheet → List (List ℕ)
-sheetFields s = (48 ∷ []) ∷ ratingFields s
+sheetFields s =
+    (digit 0 ∷ []) ∷ numberText (s .rating .0) ∷ numberText (s .first .0) ∷ termText (s .second) ∷ decimal (s .shifts) ∷ setText (s .limit) ∷ []
 
 -- "Refused: kind, key, number"
 abbrev pub fieldsOf : Rated → List (List ℕ)
@@ -78,10 +83,25 @@ fieldsOf (Refused r) = decimal (numberOf r) ∷ []
 unfoldable pub ratedText : Kind → List ℕ → Rated → List ℕ
 ratedText kind key rated = lineText (kindText kind) (key ∷ fieldsOf rated)
 
--- "for 11, `?`, `?`, 11"
+-- "for 11, `?`, `?`, 11": 63 is ?
 unfoldable pub noRequestText : List ℕ
 noRequestText = lineText (63 ∷ []) ((63 ∷ []) ∷ decimal 11 ∷ [])
 
 -- a field written at the front of a buffer: the bytes after it stay
 abbrev pub front : List ℕ → List ℕ → List ℕ
 front t l = t ++ drop (length t) l
+
+-- the text of one field of the code, and the texts of those that are there; texts behind tabs, without the line feed
+unfoldable pub fieldTexts : Field → List (List ℕ)
+fieldTexts (Number z) = numberText z ∷ []
+fieldTexts (Count n) = decimal n ∷ []
+fieldTexts (Sign b) = (b ∷ []) ∷ []
+fieldTexts Nothing = []
+
+unfoldable pub textsOf : List Field → List (List ℕ)
+textsOf [] = []
+textsOf (f ∷ fs) = fieldTexts f ++ textsOf fs
+
+unfoldable pub tabbed : List (List ℕ) → List ℕ
+tabbed [] = []
+tabbed (t ∷ ts) = tab ∷ (t ++ tabbed ts)

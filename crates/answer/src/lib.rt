@@ -1,7 +1,7 @@
 // The texts of answers, written straight into a lent output.
 //
-// Each field writes itself at the front of a tail and lends on what is behind it. Proved: what stands there is the defined text,
-// the bytes after it keep their contents, and the lengths are those of the texts.
+// Field by field, each at the front of the tail that the ones before it left. Proved: what stands there is the defined text, the
+// bytes after it keep their contents, and the lengths are those of the texts.
 mod texts;
 
 pub use texts::put_head;

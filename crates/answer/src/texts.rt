@@ -10,8 +10,7 @@ ghost use mathlib.Core.List.{_++_, _∷_, []};
 ghost use Prim.Native.Nat.{_+_, _≤_, _<_};
 ghost use lib.ListN.{length, take, drop};
 ghost use Rattle.laws.specs.Parts.{N};
-ghost use Rattle.answer.specs.Texts.{decimal, numberText, termText, kindText, others, setText, markFields, shiftsFields, secondFields, firstFields, ratingFields, sheetFields, fieldsOf, noRequestText};
-ghost use Rattle.laws.specs.Lists.{front};
+ghost use Rattle.answer.specs.Texts.{decimal, numberText, termText, kindText, others, setText, sheetFields, fieldsOf, noRequestText, front, tab, fieldTexts, textsOf, tabbed};
 
 // How many digits a number has.
 fn decimal_len(n: u32) -> usize
@@ -72,47 +71,41 @@ fn put_decimal(n: u32, out: &mut [u8]) -> usize
     ensures { λ r. ⌜ now (out .exit) ≡ front (decimal n) (now (out .entry)) ⌝ }
 {
     if n < 10 {
-        out[0] = 48 + n as u8;
+        out[0] = b'0' + n as u8;
         return 1;
     }
     if n < 100 {
-        out[0] = 48 + (n / 10) as u8;
-        out[1] = 48 + (n % 10) as u8;
+        out[0] = b'0' + (n / 10) as u8;
+        out[1] = b'0' + (n % 10) as u8;
         return 2;
     }
     let k = put_decimal(n / 10, out);
-    out[k] = 48 + (n % 10) as u8;
+    out[k] = b'0' + (n % 10) as u8;
     k + 1
 }
 
-// The text of a number behind a tab.
+// A count behind a tab.
+fn put_count(n: u32, out: &mut [u8]) -> usize
+    requires { ⌜ 1 + length (decimal n) ≤ length (now out) ⌝ }
+    ensures { λ r. ⌜ r ≡ 1 + length (decimal n) ⌝ }
+    ensures { λ r. ⌜ now (out .exit) ≡ front (tab ∷ decimal n) (now (out .entry)) ⌝ }
+{
+    out[0] = b'\t';
+    1 + put_decimal(n, &mut out[1..])
+}
+
+// A number behind a tab.
 fn put_number(z: i32, out: &mut [u8]) -> usize
     requires { ⌜ 1 + length (numberText z) ≤ length (now out) ⌝ }
     ensures { λ r. ⌜ r ≡ 1 + length (numberText z) ⌝ }
-    ensures { λ r. ⌜ now (out .exit) ≡ front (9 ∷ numberText z) (now (out .entry)) ⌝ }
+    ensures { λ r. ⌜ now (out .exit) ≡ front (tab ∷ numberText z) (now (out .entry)) ⌝ }
 {
-    out[0] = 9;
     if z < 0 {
-        out[1] = 45;
+        out[0] = b'\t';
+        out[1] = b'-';
         return 2 + put_decimal(magnitude(z), &mut out[2..]);
     }
-    1 + put_decimal(above(z, 0), &mut out[1..])
-}
-
-// A term behind a tab; a hyphen where the kind has none.
-fn put_term(term: Term, out: &mut [u8]) -> usize
-    requires { ⌜ 1 + length (termText term) ≤ length (now out) ⌝ }
-    ensures { λ r. ⌜ r ≡ 1 + length (termText term) ⌝ }
-    ensures { λ r. ⌜ now (out .exit) ≡ front (9 ∷ termText term) (now (out .entry)) ⌝ }
-{
-    match term {
-        Term::Given(d) => put_number(d.0, out),
-        Term::Absent => {
-            out[0] = 9;
-            out[1] = 45;
-            2
-        }
-    }
+    put_count(above(z, 0), out)
 }
 
 // The two letters of a kind.
@@ -122,10 +115,10 @@ fn letters_of(kind: Kind) -> Letters
     ensures { λ r. ⌜ kindText kind ≡ r .0 ∷ r .1 ∷ [] ⌝ }
 {
     match kind {
-        Kind::A3 => Letters(65, 51),
-        Kind::A1 => Letters(65, 49),
-        Kind::I3 => Letters(73, 51),
-        Kind::I1 => Letters(73, 49),
+        Kind::A3 => Letters(b'A', b'3'),
+        Kind::A1 => Letters(b'A', b'1'),
+        Kind::I3 => Letters(b'I', b'3'),
+        Kind::I1 => Letters(b'I', b'1'),
     }
 }
 
@@ -146,101 +139,104 @@ fn put_key(s: &[u8], key: usize, len: usize, out: &mut [u8])
 pub fn put_head(kind: Kind, s: &[u8], key: usize, len: usize, out: &mut [u8])
     requires { ⌜ key + len ≤ length (now s) ⌝ }
     requires { ⌜ 3 + len ≤ length (now out) ⌝ }
-    ensures { λ r. ⌜ now (out .exit) ≡ front (kindText kind ++ (9 ∷ take len (drop key (now (s .entry))))) (now (out .entry)) ⌝ }
+    ensures { λ r. ⌜ now (out .exit) ≡ front (kindText kind ++ (tab ∷ take len (drop key (now (s .entry))))) (now (out .entry)) ⌝ }
 {
     let l = letters_of(kind);
     out[0] = l.0;
     out[1] = l.1;
-    out[2] = 9;
+    out[2] = b'\t';
     put_key(s, key, len, &mut out[3..]);
 }
 
-// A count behind a tab.
-fn put_count(n: u32, out: &mut [u8]) -> usize
-    requires { ⌜ 1 + length (decimal n) ≤ length (now out) ⌝ }
-    ensures { λ r. ⌜ r ≡ 1 + length (decimal n) ⌝ }
-    ensures { λ r. ⌜ now (out .exit) ≡ front (9 ∷ decimal n) (now (out .entry)) ⌝ }
+// One field of an answer: a number, a count, a single byte, or none.
+enum Field {
+    Number(i32),
+    Count(u32),
+    Sign(u8),
+    Nothing,
+}
+
+// A term; a hyphen where the kind has none.
+fn term_field(term: Term) -> Field
+    ensures { λ r. ⌜ fieldTexts r ≡ termText term ∷ [] ⌝ }
 {
-    out[0] = 9;
-    1 + put_decimal(n, &mut out[1..])
+    match term {
+        Term::Given(d) => Field::Number(d.0),
+        Term::Absent => Field::Sign(b'-'),
+    }
 }
 
 fn mark(limit: bool) -> u8
     ensures { λ r. ⌜ setText limit ≡ r ∷ [] ⌝ }
 {
-    if limit { 76 } else { 61 }
+    if limit { b'L' } else { b'=' }
 }
 
-// What follows the key of an accepted request, field by field: each writes itself and lends on what is behind it. The mark
-// and the line feed,
-fn put_mark(sheet: Sheet, out: &mut [u8])
-    requires { ⌜ length (others (markFields sheet)) ≤ length (now out) ⌝ }
-    ensures { λ r. ⌜ now (out .exit) ≡ front (others (markFields sheet)) (now (out .entry)) ⌝ }
+// What follows the key: the fields of a sheet, or the number of a refusal and nothing more.
+fn fields_of(rated: Rated) -> [Field; 6]
+    ensures { λ r. ⌜ (textsOf r ≡ fieldsOf rated) × (length r ≡ 6) ⌝ }
 {
-    out[0] = 9;
-    out[1] = mark(sheet.limit);
-    out[2] = 10;
+    match rated {
+        Rated::Rating(sheet) => {
+            let rating = sheet.rating;
+            let first = sheet.first;
+            let second = sheet.second;
+            [
+                Field::Sign(b'0'),
+                Field::Number(rating.0),
+                Field::Number(first.0),
+                term_field(second),
+                Field::Count(sheet.shifts),
+                Field::Sign(mark(sheet.limit)),
+            ]
+        }
+        Rated::Refused(refusal) => [
+            Field::Count(refusal.number()),
+            Field::Nothing,
+            Field::Nothing,
+            Field::Nothing,
+            Field::Nothing,
+            Field::Nothing,
+        ],
+    }
 }
 
-// the shifts,
-fn put_shifts(sheet: Sheet, out: &mut [u8])
-    requires { ⌜ length (others (shiftsFields sheet)) ≤ length (now out) ⌝ }
-    ensures { λ r. ⌜ now (out .exit) ≡ front (others (shiftsFields sheet)) (now (out .entry)) ⌝ }
+// A field behind a tab.
+fn put_field(field: Field, out: &mut [u8]) -> usize
+    requires { ⌜ length (tabbed (fieldTexts field)) ≤ length (now out) ⌝ }
+    ensures { λ r. ⌜ r ≡ length (tabbed (fieldTexts field)) ⌝ }
+    ensures { λ r. ⌜ now (out .exit) ≡ front (tabbed (fieldTexts field)) (now (out .entry)) ⌝ }
 {
-    let k = put_count(sheet.shifts, out);
-    put_mark(sheet, &mut out[k..]);
+    match field {
+        Field::Number(z) => put_number(z, out),
+        Field::Count(n) => put_count(n, out),
+        Field::Sign(b) => {
+            out[0] = b'\t';
+            out[1] = b;
+            2
+        }
+        Field::Nothing => 0,
+    }
 }
 
-// the second term,
-fn put_second(sheet: Sheet, out: &mut [u8])
-    requires { ⌜ length (others (secondFields sheet)) ≤ length (now out) ⌝ }
-    ensures { λ r. ⌜ now (out .exit) ≡ front (others (secondFields sheet)) (now (out .entry)) ⌝ }
+// What follows the key, field by field, each at the front of the tail that the ones before it left, then the line feed. Always
+// six turns: the compiler lays them out one after another.
+pub fn put_rated(rated: Rated, out: &mut [u8])
+    requires { ⌜ length (others (fieldsOf rated)) ≤ length (now out) ⌝ }
+    ensures { λ r. ⌜ now (out .exit) ≡ front (others (fieldsOf rated)) (now (out .entry)) ⌝ }
 {
-    let second = sheet.second;
-    let k = put_term(second, out);
-    put_shifts(sheet, &mut out[k..]);
+    let fields = fields_of(rated);
+    let mut at = 0;
+    let mut i = 0;
+    while i < 6 {
+        let field = fields[i];
+        at += put_field(field, &mut out[at..]);
+        i += 1;
+    }
+    out[at] = b'\n';
 }
 
-// the first term,
-fn put_first(sheet: Sheet, out: &mut [u8])
-    requires { ⌜ length (others (firstFields sheet)) ≤ length (now out) ⌝ }
-    ensures { λ r. ⌜ now (out .exit) ≡ front (others (firstFields sheet)) (now (out .entry)) ⌝ }
-{
-    let first = sheet.first;
-    let k = put_number(first.0, out);
-    put_second(sheet, &mut out[k..]);
-}
-
-// the rating,
-fn put_rating(sheet: Sheet, out: &mut [u8])
-    requires { ⌜ length (others (ratingFields sheet)) ≤ length (now out) ⌝ }
-    ensures { λ r. ⌜ now (out .exit) ≡ front (others (ratingFields sheet)) (now (out .entry)) ⌝ }
-{
-    let rating = sheet.rating;
-    let k = put_number(rating.0, out);
-    put_first(sheet, &mut out[k..]);
-}
-
-// and in front of them the 0.
-fn put_sheet(sheet: Sheet, out: &mut [u8])
-    requires { ⌜ length (others (sheetFields sheet)) ≤ length (now out) ⌝ }
-    ensures { λ r. ⌜ now (out .exit) ≡ front (others (sheetFields sheet)) (now (out .entry)) ⌝ }
-{
-    out[0] = 9;
-    out[1] = 48;
-    put_rating(sheet, &mut out[2..]);
-}
-
-// What follows the key of a refused request: the number, and the line feed.
-fn put_refused(number: u32, out: &mut [u8])
-    requires { ⌜ length (others (decimal number ∷ [])) ≤ length (now out) ⌝ }
-    ensures { λ r. ⌜ now (out .exit) ≡ front (others (decimal number ∷ [])) (now (out .entry)) ⌝ }
-{
-    let k = put_count(number, out);
-    out[k] = 10;
-}
-
-// How long what follows the key is.
+// How long what follows the key is. Summed from the sheet: a loop over the fields is slower.
 fn term_len(term: Term) -> usize
     ensures { λ r. ⌜ (r ≡ length (termText term)) × (r ≤ 11) ⌝ }
 {
@@ -269,26 +265,16 @@ pub fn rated_len(rated: Rated) -> usize
     }
 }
 
-pub fn put_rated(rated: Rated, out: &mut [u8])
-    requires { ⌜ length (others (fieldsOf rated)) ≤ length (now out) ⌝ }
-    ensures { λ r. ⌜ now (out .exit) ≡ front (others (fieldsOf rated)) (now (out .entry)) ⌝ }
-{
-    match rated {
-        Rated::Rating(sheet) => put_sheet(sheet, out),
-        Rated::Refused(refusal) => put_refused(refusal.number(), out),
-    }
-}
-
 // The answer to what is no request.
 pub fn put_none(out: &mut [u8])
     requires { ⌜ 7 ≤ length (now out) ⌝ }
     ensures { λ r. ⌜ now (out .exit) ≡ front noRequestText (now (out .entry)) ⌝ }
 {
-    out[0] = 63;
-    out[1] = 9;
-    out[2] = 63;
-    out[3] = 9;
-    out[4] = 49;
-    out[5] = 49;
-    out[6] = 10;
+    out[0] = b'?';
+    out[1] = b'\t';
+    out[2] = b'?';
+    out[3] = b'\t';
+    out[4] = b'1';
+    out[5] = b'1';
+    out[6] = b'\n';
 }

@@ -9,9 +9,9 @@ use lib.Dec.{ltb, eqb}
 use lib.ListN.{length, take, drop, length-append, length-drop}
 use lib.Seq.{take-at, drop-append-add, drop-drop}
 use Rattle.line.specs.declared.blocks.Turn.{Turn}
-use Rattle.laws.specs.Lists.{front}
+use Rattle.answer.specs.Texts.{front}
 use Rattle.line.specs.Blocks.{Step, stepAt, Block, blockFrom, blockOf, Turned, Answered}
-use Rattle.laws.proofs.Fronts.{front-length}
+use Rattle.answer.proofs.Fronts.{front-length}
 use Rattle.line.proofs.Turns.{piece-ahead, none-placed, feed-most, Came, came}
 
 -- a step lies ahead, and within
@@ -122,15 +122,15 @@ going-start s l skip last = record {
   out-is = refl;
 }
 
-pub going-length : (s l : List ℕ) (skip₀ last : Bool) (used wrote : ℕ) (skip : Bool) (out : List ℕ) → Going s l skip₀ last used wrote skip out → length out ≡ length l
-going-length s l skip₀ last used wrote skip out g = ap length (g .out-is) ∙ front-length (g .text) l (g .fits)
+pub going-length : {s l : List ℕ} {skip₀ last : Bool} {used wrote : ℕ} {skip : Bool} {out : List ℕ} → Going s l skip₀ last used wrote skip out → length out ≡ length l
+going-length {l = l} g = ap length (g .out-is) ∙ front-length (g .text) l (g .fits)
 
-module _ (s l : List ℕ) (skip₀ last : Bool) (used wrote : ℕ) (skip : Bool) (out : List ℕ) (g : Going s l skip₀ last used wrote skip out) where
+module _ {s l : List ℕ} {skip₀ last : Bool} {used wrote : ℕ} {skip : Bool} {out : List ℕ} (g : Going s l skip₀ last used wrote skip out) where
   same-room : length out - wrote ≡ length l - length (g .text)
-  same-room = omega (arith, going-length s l skip₀ last used wrote skip out g, g .wrote-is)
+  same-room = omega (arith, going-length g, g .wrote-is)
 
   pub going-room : wrote ≤ length out
-  going-room = omega (arith, going-length s l skip₀ last used wrote skip out g, g .wrote-is, g .fits)
+  going-room = omega (arith, going-length g, g .wrote-is, g .fits)
 
   abbrev now-step : Step
   now-step = stepAt s used (length out - wrote) skip last
@@ -159,7 +159,7 @@ module _ (s l : List ℕ) (skip₀ last : Bool) (used wrote : ℕ) (skip : Bool)
   pub going-out : length s ≤ used → Answered (blockOf s (length l) skip₀ last) s l (record { used = used; wrote = wrote; skipping = skip }) out
   going-out h = ended (blockFrom (g .fuel) s (length l) used (g .text) skip last) (g .same) (block-out s (length l) used (g .text) skip last (g .fuel) h)
 
-  module _ (r : Turn) (after : List ℕ) (t : Turned now-step out wrote r after) where
+  module _ {r : Turn} {after : List ℕ} (t : Turned now-step out wrote r after) where
     pub kept : r .next ≡ used → out ≡ after
     kept e =
         none-placed out wrote
@@ -193,7 +193,7 @@ module _ (s l : List ℕ) (skip₀ last : Bool) (used wrote : ℕ) (skip : Bool)
           enough = omega (arith, n .1, g .enough, turn-ahead f);
           within = turn-ahead f .1;
           wrote-is = omega (arith, t .wrote-is, g .wrote-is, length-append (g .text) (now-step .text));
-          fits = omega (arith, t .fits, g .wrote-is, length-append (g .text) (now-step .text), going-length s l skip₀ last used wrote skip out g);
+          fits = omega (arith, t .fits, g .wrote-is, length-append (g .text) (now-step .text), going-length g);
           out-is = t .out ∙ home;
         }
       where

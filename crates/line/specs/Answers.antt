@@ -8,6 +8,7 @@ use Rattle.quantity.specs.Refusals.{numberOf}
 use Rattle.quantity.specs.Answers.{Answer}
 use Rattle.quantity.specs.Answers.Answer.{refused, numbers}
 use Rattle.quantity.specs.declared.refusals.Refusal.the-variants.{NoRoom}
+use Rattle.answer.specs.Texts.{lineFeed}
 use Rattle.reply.specs.Answers.{answerOf}
 use Rattle.line.specs.declared.lines.Wrote.{Wrote}
 use Rattle.line.specs.declared.lines.Wrote.the-variants as wrote
@@ -19,7 +20,7 @@ joined b (l ∷ ls) = (b ∷ l) ∷ ls
 
 unfoldable pub linesOf : List ℕ → List (List ℕ)
 linesOf [] = []
-linesOf (b ∷ s) = elim (eqb b 10) [ true ↦ (10 ∷ []) ∷ linesOf s | false ↦ joined b (linesOf s) ]
+linesOf (b ∷ s) = elim (eqb b lineFeed) [ true ↦ (lineFeed ∷ []) ∷ linesOf s | false ↦ joined b (linesOf s) ]
 
 -- one answer for each line, in order. "Empty input gives empty output."
 unfoldable pub answersTo : List (List ℕ) → List ℕ

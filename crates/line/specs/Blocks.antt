@@ -8,6 +8,7 @@ use lib.ListN.{length, take, drop}
 use Rattle.line.specs.declared.blocks.Piece.{Piece}
 use Rattle.line.specs.declared.blocks.Turn.{Turn}
 use Rattle.line.specs.declared.blocks.Progress.{Progress}
+use Rattle.answer.specs.Texts.{lineFeed}
 use Rattle.reply.specs.Answers.{replyAt, replyText}
 use Rattle.line.specs.Answers.{answersOf}
 
@@ -18,7 +19,7 @@ oneMore (suc n) = suc (suc n)
 
 unfoldable pub feedIn : List ℕ → ℕ
 feedIn [] = 0
-feedIn (b ∷ s) = elim (eqb b 10) [ true ↦ 1 | false ↦ oneMore (feedIn s) ]
+feedIn (b ∷ s) = elim (eqb b lineFeed) [ true ↦ 1 | false ↦ oneMore (feedIn s) ]
 
 abbrev pub movedBy : ℕ → ℕ → ℕ
 movedBy at zero = 0
@@ -106,7 +107,7 @@ pub record Answered (block : Block) (input before : List ℕ) (r : Progress) (af
 -- What a run is, whatever is carried: the answers of what is left, after the rest of a long line that was answered.
 unfoldable pub afterFeed : List ℕ → List ℕ
 afterFeed [] = []
-afterFeed (b ∷ s) = elim (eqb b 10) [ true ↦ s | false ↦ afterFeed s ]
+afterFeed (b ∷ s) = elim (eqb b lineFeed) [ true ↦ s | false ↦ afterFeed s ]
 
 abbrev pub answersFrom : Bool → List ℕ → List ℕ
 answersFrom true s = answersOf (afterFeed s)

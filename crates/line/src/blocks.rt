@@ -37,7 +37,7 @@ fn feed_after(s: &[u8], at: usize) -> usize
 {
     let mut i = at;
     while i < s.len() {
-        if s[i] == 10 {
+        if s[i] == b'\n' {
             return i + 1;
         }
         i += 1;

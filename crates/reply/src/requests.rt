@@ -128,7 +128,7 @@ pub fn reply_at(
     match named {
         Named::Nothing => no_reply(),
         Named::Is(kind) => {
-            if byte(s, at + 2) != 9 {
+            if byte(s, at + 2) != b'\t' {
                 return no_reply();
             }
             keyed(s, at, kind, powers, thresholds, starts)

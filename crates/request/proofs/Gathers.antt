@@ -20,8 +20,7 @@ use Rattle.request.specs.Texts.{Band}
 use Rattle.request.specs.Reading.{Found, bandAt, Bands, bandsFrom, bandsAt}
 use Rattle.request.specs.Reading.Found.{found}
 use Rattle.request.specs.Reading.Bands.{broken, ended}
-use Rattle.request.specs.Gathering.{nought, valueOf, markOf, faultOf, firstFault, marksOf, valuesOf, fieldOf, weightBy, GatheredAt}
-use Rattle.laws.specs.Extremes.{one-if}
+use Rattle.request.specs.Gathering.{nought, valueOf, markOf, faultOf, firstFault, bitOf, marksOf, valuesOf, fieldOf, weightBy, GatheredAt}
 use Rattle.request.proofs.Leaves.{inside}
 use Rattle.request.proofs.Readers.{bands-tab, bands-broken, bands-end, bands-none}
 use Rattle.request.proofs.Exact.{band-ok, FoundOk}
@@ -44,11 +43,11 @@ marks-more : (bs : List Band) (b : Band) → marksOf (bs ++ (b ∷ [])) ≡ mark
 unfolding marksOf
 marks-more [] b = last (markOf b)
   where
-    last : (m : Bool) → one-if m + 2 * 0 ≡ 0 + weightBy m 1
+    last : (m : Bool) → bitOf m + 2 * 0 ≡ 0 + weightBy m 1
     last true = refl
     last false = refl
 marks-more (x ∷ bs) b =
-    ap (λ (k : ℕ). one-if (markOf x) + 2 * k) (marks-more bs b) ∙ regroup (one-if (markOf x)) (marksOf bs) (2 ^ length bs) (2 ^ suc (length bs)) (pow-suc 2 (length bs) ∙ omega arith) (markOf b)
+    ap (λ (k : ℕ). bitOf (markOf x) + 2 * k) (marks-more bs b) ∙ regroup (bitOf (markOf x)) (marksOf bs) (2 ^ length bs) (2 ^ suc (length bs)) (pow-suc 2 (length bs) ∙ omega arith) (markOf b)
   where
     regroup : (x m w w2 : ℕ) → w2 ≡ 2 * w → (t : Bool) → x + 2 * (m + weightBy t w) ≡ x + 2 * m + weightBy t w2
     regroup x m w w2 e true = omega arith
@@ -135,7 +134,7 @@ met (found b next) r e h = record {
   fault = ap (λ (x : Field). x .fault) e;
 }
 
-module _ (s : List ℕ) (start : ℕ) (values : List Tenths) (marks weight count : ℕ) (fault : Outcome) (at : ℕ) (g : Gathering s start values marks weight count fault at)
+module _ {s : List ℕ} {start : ℕ} {values : List Tenths} {marks weight count : ℕ} {fault : Outcome} {at : ℕ} (g : Gathering s start values marks weight count fault at)
     (r : Field) (tab : byteAt s at ≡ 9) (read : r ≡ fieldOf (bandAt s (at + 1))) (some : r .next ≡ 0 → ⊥) where
   here : at < length s
   here = inside s at (omega arith)
@@ -222,7 +221,7 @@ module _ (s : List ℕ) (start : ℕ) (values : List Tenths) (marks weight count
   turn-many h = turned values marks weight (g .whole) (g .low) (g .high) (λ few. absurd (omega (arith, all-length, g .count-is)))
 
 -- the ways out
-module _ (s : List ℕ) (start : ℕ) (values : List Tenths) (marks weight count : ℕ) (fault : Outcome) (at : ℕ) (g : Gathering s start values marks weight count fault at) where
+module _ {s : List ℕ} {start : ℕ} {values : List Tenths} {marks weight count : ℕ} {fault : Outcome} {at : ℕ} (g : Gathering s start values marks weight count fault at) where
   by-fuel : (x : Bands) → ((m : ℕ) → bandsFrom (suc m) s at (g .bands) ≡ x) → bandsFrom 0 s at (g .bands) ≡ x → bandsAt s start ≡ x
   by-fuel x f z = g .same ∙ go (g .fuel)
     where
@@ -262,7 +261,7 @@ module _ (s : List ℕ) (start : ℕ) (values : List Tenths) (marks weight count
       go (suc m) f = g .same ∙ ap (λ (k : ℕ). bandsFrom k s at (g .bands)) f ∙ bands-end m s at (g .bands) e
 
 -- where the two ways of a turn meet
-module _ (s : List ℕ) (start : ℕ) (values : List Tenths) (marks weight count : ℕ) (fault : Outcome) (at : ℕ) (g : Gathering s start values marks weight count fault at)
+module _ {s : List ℕ} {start : ℕ} {values : List Tenths} {marks weight count : ℕ} {fault : Outcome} {at : ℕ} (g : Gathering s start values marks weight count fault at)
     (r : Field) (tab : byteAt s at ≡ 9) (read : r ≡ fieldOf (bandAt s (at + 1))) (some : r .next ≡ 0 → ⊥)
     (values' : List Tenths) (marks' weight' : ℕ) (fault' : Outcome) (first : fault' ≡ orElse fault (r .fault)) where
   moved : (v : List Tenths) (m w : ℕ) → values' ≡ v → marks' ≡ m → weight' ≡ w
@@ -276,10 +275,10 @@ module _ (s : List ℕ) (start : ℕ) (values : List Tenths) (marks weight count
   pub again-few : (w : ℕ) → w ≡ weightBy (r .limit) weight → count < 16 → values' ≡ set values count (r .value) → marks' ≡ marks + w → weight' ≡ weight + weight
       → Gathering s start values' marks' weight' (count + 1) fault' (r .next)
   again-few w e h a b c =
-      moved (set values count (r .value)) (marks + w) (weight + weight) a b c (turn-few s start values marks weight count fault at g r tab read some w e h)
+      moved (set values count (r .value)) (marks + w) (weight + weight) a b c (turn-few g r tab read some w e h)
 
   pub again-many : 16 ≤ count → values' ≡ values → marks' ≡ marks → weight' ≡ weight → Gathering s start values' marks' weight' (count + 1) fault' (r .next)
-  again-many h a b c = moved values marks weight a b c (turn-many s start values marks weight count fault at g r tab read some h)
+  again-many h a b c = moved values marks weight a b c (turn-many g r tab read some h)
 
 -- the refusal of a band is put after the one that stands, if it gives any
 pub or-refused : (o p : Outcome) (r : Refusal) → p ≡ Refused r → orElse o (Refused r) ≡ orElse o p

@@ -9,6 +9,7 @@ use lib.ListN.{length, take, drop}
 use Rattle.quantity.specs.Keys.{byteAt, between, keyByte}
 use Rattle.rating.specs.declared.kinds.Kind.{Kind}
 use Rattle.rating.specs.declared.kinds.Kind.the-variants.{A3, A1, I3, I1}
+use Rattle.answer.specs.Texts.{tab, lineFeed, hyphen, point, digit}
 use Rattle.request.specs.declared.bands.Figure.{Figure}
 use Rattle.request.specs.declared.bands.Figure.the-variants.{Read, Nothing}
 use Rattle.request.specs.declared.heads.Named.{Named}
@@ -18,7 +19,7 @@ use Rattle.request.specs.Texts.Band.{missing, level}
 
 -- the value of a digit; 10 for any other byte
 unfoldable pub digitOf : ℕ → ℕ
-digitOf b = cond (between 48 57 b) (b - 48) 10
+digitOf b = cond (between (digit 0) (digit 9) b) (b - digit 0) 10
 
 abbrev pub digitAt : List ℕ → ℕ → ℕ
 digitAt s i = digitOf (byteAt s i)
@@ -32,16 +33,16 @@ tenthAt s at whole = tenthBy (byteAt s at) whole (at + 1)
 
 -- after three digits of the whole part, after two, after one: a point, or one more digit, if the first is no 0
 unfoldable pub thirdAt : List ℕ → ℕ → ℕ → Figure
-thirdAt s at whole = cond (eqb (byteAt s at) 46) (tenthAt s (at + 1) whole) Nothing
+thirdAt s at whole = cond (eqb (byteAt s at) point) (tenthAt s (at + 1) whole) Nothing
 
 unfoldable pub secondAt : List ℕ → ℕ → ℕ → Figure
 secondAt s at whole =
-    cond (eqb (byteAt s at) 46) (tenthAt s (at + 1) whole)
+    cond (eqb (byteAt s at) point) (tenthAt s (at + 1) whole)
     (cond (ltb (digitAt s at) 10) (thirdAt s (at + 1) (10 * whole + digitAt s at)) Nothing)
 
 unfoldable pub firstAt : List ℕ → ℕ → ℕ → Figure
 firstAt s at whole =
-    cond (eqb (byteAt s at) 46) (tenthAt s (at + 1) whole)
+    cond (eqb (byteAt s at) point) (tenthAt s (at + 1) whole)
     (cond (eqb whole 0) Nothing
     (cond (ltb (digitAt s at) 10) (secondAt s (at + 1) (10 * whole + digitAt s at)) Nothing))
 
@@ -59,13 +60,13 @@ signedBy limit false (Read m next) = found (level limit (pos m)) next
 signedBy limit true (Read m next) = cond (eqb m 0) nothing (found (level limit (negℤ (pos m))) next)
 
 unfoldable pub levelAt : List ℕ → ℕ → Bool → Found
-levelAt s at limit = cond (eqb (byteAt s at) 45) (signedBy limit true (figureAt s (at + 1))) (signedBy limit false (figureAt s at))
+levelAt s at limit = cond (eqb (byteAt s at) hyphen) (signedBy limit true (figureAt s (at + 1))) (signedBy limit false (figureAt s at))
 
--- a hyphen that no digit follows is a missing band
+-- a hyphen that no digit follows is a missing band; 76 is L
 unfoldable pub bandAt : List ℕ → ℕ → Found
 bandAt s at =
     cond (eqb (byteAt s at) 76) (levelAt s (at + 1) true)
-    (cond (eqb (byteAt s at) 45) (cond (ltb (digitAt s (at + 1)) 10) (levelAt s at false) (found missing (at + 1)))
+    (cond (eqb (byteAt s at) hyphen) (cond (ltb (digitAt s (at + 1)) 10) (levelAt s at false) (found missing (at + 1)))
     (levelAt s at false))
 
 -- the bands from a position on, each behind a tab, up to the line feed: with those already read, and the position after it
@@ -76,9 +77,9 @@ pub data Bands : Type 0 where
 unfoldable pub bandsFrom : ℕ → List ℕ → ℕ → List Band → Bands
 bandsFrom zero s at before = broken
 bandsFrom (suc more) s at before =
-    elim (eqb (byteAt s at) 9) [
+    elim (eqb (byteAt s at) tab) [
       | true ↦ elim (bandAt s (at + 1)) [ nothing ↦ broken | found b next ↦ bandsFrom more s next (before ++ (b ∷ [])) ]
-      | false ↦ elim (eqb (byteAt s at) 10) [ true ↦ ended before (at + 1) | false ↦ broken ]
+      | false ↦ elim (eqb (byteAt s at) lineFeed) [ true ↦ ended before (at + 1) | false ↦ broken ]
     ]
 
 -- each band takes at least a byte
@@ -90,12 +91,13 @@ unfoldable pub keySpan : List ℕ → ℕ
 keySpan [] = 0
 keySpan (b ∷ s) = elim (keyByte b) [ true ↦ suc (keySpan s) | false ↦ 0 ]
 
+-- 65 is A, 73 is I
 unfoldable pub kindAt : List ℕ → ℕ → Named
 kindAt s at =
     cond (eqb (byteAt s at) 65)
-    (cond (eqb (byteAt s (at + 1)) 51) (named.Is A3) (cond (eqb (byteAt s (at + 1)) 49) (named.Is A1) named.Nothing))
+    (cond (eqb (byteAt s (at + 1)) (digit 3)) (named.Is A3) (cond (eqb (byteAt s (at + 1)) (digit 1)) (named.Is A1) named.Nothing))
     (cond (eqb (byteAt s at) 73)
-    (cond (eqb (byteAt s (at + 1)) 51) (named.Is I3) (cond (eqb (byteAt s (at + 1)) 49) (named.Is I1) named.Nothing))
+    (cond (eqb (byteAt s (at + 1)) (digit 3)) (named.Is I3) (cond (eqb (byteAt s (at + 1)) (digit 1)) (named.Is I1) named.Nothing))
     named.Nothing)
 
 -- what stands where a request is expected: a request and the position after it, or none
@@ -115,7 +117,7 @@ withKey kind s at n = cond (leb 1 n && leb n 32) (withBands kind (take n (drop a
 
 abbrev pub withKind : Named → List ℕ → ℕ → Asked
 withKind named.Nothing s at = Asked.nothing
-withKind (named.Is kind) s at = cond (eqb (byteAt s (at + 2)) 9) (withKey kind s (at + 3) (keySpan (drop (at + 3) s))) Asked.nothing
+withKind (named.Is kind) s at = cond (eqb (byteAt s (at + 2)) tab) (withKey kind s (at + 3) (keySpan (drop (at + 3) s))) Asked.nothing
 
 unfoldable pub requestAt : List ℕ → ℕ → Asked
 requestAt s at = withKind (kindAt s at) s at

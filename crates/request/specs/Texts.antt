@@ -5,7 +5,7 @@ use Prim.Native.Nat.{ℕ, suc, _+_, _/_, _%_, _≤_}
 use lib.IntN.{ℤ, pos, negsuc}
 use Rattle.laws.specs.Parts.{P, N}
 use Rattle.rating.specs.declared.kinds.Kind.{Kind}
-use Rattle.answer.specs.Texts.{lineText, decimal, kindText}
+use Rattle.answer.specs.Texts.{hyphen, point, digit, lineText, decimal, kindText}
 
 -- a band: missing, or whether it is a limit value and its tenths
 pub data Band : Type 0 where
@@ -14,19 +14,20 @@ pub data Band : Type 0 where
 
 -- "an optional minus, 1 to 3 digits without a needless leading zero, a point, one digit"
 unfoldable pub figureText : ℕ → List ℕ
-figureText m = decimal (m / 10) ++ (46 ∷ (48 + m % 10) ∷ [])
+figureText m = decimal (m / 10) ++ (point ∷ digit (m % 10) ∷ [])
 
 unfoldable pub levelText : ℤ → List ℕ
 levelText (pos m) = figureText m
-levelText (negsuc m) = 45 ∷ figureText (suc m)
+levelText (negsuc m) = hyphen ∷ figureText (suc m)
 
+-- 76 is L
 abbrev pub markText : Bool → List ℕ
 markText true = 76 ∷ []
 markText false = []
 
 -- "`-` for missing, or an optional `L` (limit), then .."
 unfoldable pub bandText : Band → List ℕ
-bandText missing = 45 ∷ []
+bandText missing = hyphen ∷ []
 bandText (level limit z) = markText limit ++ levelText z
 
 -- a value that has such a text: 999.9 dB at most, either way

@@ -35,7 +35,7 @@ fn tenth_of(b: u8, whole: u32, next: usize) -> Figure
     ensures { λ r. ⌜ r ≡ tenthBy b whole next ⌝ }
 {
     if is_digit(b) {
-        return Figure::Read(10 * whole + (b - 48) as u32, next);
+        return Figure::Read(10 * whole + (b - b'0') as u32, next);
     }
     Figure::Nothing
 }
@@ -52,7 +52,7 @@ fn third_at(s: &[u8], at: usize, whole: u32) -> Figure
     requires { ⌜ whole < 1000 ⌝ }
     ensures { λ r. ⌜ r ≡ thirdAt (now (s .entry)) at whole ⌝ }
 {
-    if byte(s, at) == 46 {
+    if byte(s, at) == b'.' {
         return tenth_at(s, at + 1, whole);
     }
     Figure::Nothing
@@ -64,7 +64,7 @@ fn second_at(s: &[u8], at: usize, whole: u32) -> Figure
     ensures { λ r. ⌜ r ≡ secondAt (now (s .entry)) at whole ⌝ }
 {
     let b = byte(s, at);
-    if b == 46 {
+    if b == b'.' {
         return tenth_at(s, at + 1, whole);
     }
     let d = digit(b);
@@ -80,7 +80,7 @@ fn first_at(s: &[u8], at: usize, whole: u32) -> Figure
     ensures { λ r. ⌜ r ≡ firstAt (now (s .entry)) at whole ⌝ }
 {
     let b = byte(s, at);
-    if b == 46 {
+    if b == b'.' {
         return tenth_at(s, at + 1, whole);
     }
     if whole == 0 {
@@ -168,7 +168,7 @@ fn signed(figure: Figure, limit: bool, minus: bool) -> Field
 fn level_at(s: &[u8], at: usize, limit: bool) -> Field
     ensures { λ r. ⌜ r ≡ fieldOf (levelAt (now (s .entry)) at limit) ⌝ }
 {
-    if byte(s, at) == 45 {
+    if byte(s, at) == b'-' {
         return signed(figure_at(s, at + 1), limit, true);
     }
     signed(figure_at(s, at), limit, false)
@@ -179,10 +179,10 @@ fn any_band_at(s: &[u8], at: usize) -> Field
     ensures { λ r. ⌜ r ≡ fieldOf (bandAt (now (s .entry)) at) ⌝ }
 {
     let b = byte(s, at);
-    if b == 76 {
+    if b == b'L' {
         return level_at(s, at + 1, true);
     }
-    if b == 45 {
+    if b == b'-' {
         if digit(byte(s, at + 1)) < 10 {
             return level_at(s, at, false);
         }
@@ -202,19 +202,19 @@ fn short_at(s: &[u8], at: usize) -> Figure
         return Figure::Nothing;
     }
     let ones = s[at + 1];
-    if ones == 46 {
-        return tenth_of(s[at + 2], (tens - 48) as u32, at + 3);
+    if ones == b'.' {
+        return tenth_of(s[at + 2], (tens - b'0') as u32, at + 3);
     }
-    if tens == 48 {
+    if tens == b'0' {
         return Figure::Nothing;
     }
     if !is_digit(ones) {
         return Figure::Nothing;
     }
-    if s[at + 2] == 46 {
+    if s[at + 2] == b'.' {
         return tenth_of(
             s[at + 3],
-            10 * (tens - 48) as u32 + (ones - 48) as u32,
+            10 * (tens - b'0') as u32 + (ones - b'0') as u32,
             at + 4,
         );
     }
@@ -287,7 +287,7 @@ pub fn bands_at(s: &[u8], start: usize) -> Gathered
     let mut count = 0usize;
     let mut fault = Outcome::Accepted;
     let mut at = start;
-    while byte(s, at) == 9 {
+    while byte(s, at) == b'\t' {
         let band = band_at(s, at + 1);
         let next = band.next;
         if next == 0 {
@@ -307,7 +307,7 @@ pub fn bands_at(s: &[u8], start: usize) -> Gathered
         count += 1;
         at = next;
     }
-    if byte(s, at) != 10 {
+    if byte(s, at) != b'\n' {
         return broken();
     }
     Gathered {

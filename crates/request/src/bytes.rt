@@ -1,16 +1,17 @@
 // The digits of a line.
 ghost use mathlib.Core.Path.{_≡_};
 ghost use Rattle.quantity.specs.Keys.{between};
+ghost use Rattle.answer.specs.Texts.{digit};
 ghost use Rattle.request.specs.Reading.{digitOf};
 
 // Whether a byte is a digit.
 pub fn is_digit(b: u8) -> bool
-    ensures { λ r. ⌜ r ≡ between 48 57 b ⌝ }
+    ensures { λ r. ⌜ r ≡ between (digit 0) (digit 9) b ⌝ }
 {
-    if b < 48 {
+    if b < b'0' {
         return false;
     }
-    b <= 57
+    b <= b'9'
 }
 
 // The value of a digit; 10 for any other byte.
@@ -18,7 +19,7 @@ pub fn digit(b: u8) -> u32
     ensures { λ r. ⌜ r ≡ digitOf b ⌝ }
 {
     if is_digit(b) {
-        return (b - 48) as u32;
+        return (b - b'0') as u32;
     }
     10
 }

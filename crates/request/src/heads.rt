@@ -17,22 +17,22 @@ pub fn kind_at(s: &[u8], at: usize) -> Named
     ensures { λ r. ⌜ r ≡ kindAt (now (s .entry)) at ⌝ }
 {
     let b = byte(s, at);
-    if b == 65 {
+    if b == b'A' {
         let d = byte(s, at + 1);
-        if d == 51 {
+        if d == b'3' {
             return Named::Is(Kind::A3);
         }
-        if d == 49 {
+        if d == b'1' {
             return Named::Is(Kind::A1);
         }
         return Named::Nothing;
     }
-    if b == 73 {
+    if b == b'I' {
         let d = byte(s, at + 1);
-        if d == 51 {
+        if d == b'3' {
             return Named::Is(Kind::I3);
         }
-        if d == 49 {
+        if d == b'1' {
             return Named::Is(Kind::I1);
         }
     }

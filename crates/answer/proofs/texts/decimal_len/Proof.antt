@@ -1,3 +1,4 @@
+-- `answer::texts::decimal_len` meets its contract: between two powers of ten the number of digits is one. Assumes nothing.
 use native.Mathlib.Omega.{arith}
 use Rattle.answer.proofs.Decimals.{digits-are}
 use Rattle.answer.proofs.Writers.{one-length}

@@ -1,3 +1,4 @@
+-- `answer::texts::letters_of` meets its contract, kind by kind. Assumes nothing.
 use borrow.Author.Needs.{needs}
 use Rattle.answer.proofs.texts.letters_of.Statement.{statement}
 use Rattle.answer.proofs.texts.letters_of.Tie as tie

@@ -1,3 +1,4 @@
+-- `answer::texts::number_len` meets its contract: the digits, and one more byte for a number below 0. Assumes nothing.
 use mathlib.Core.Path.{_≡_, _∙_, ap}
 use native.Mathlib.Omega.{arith}
 use mir.Facts.{toZ-ofZ}
@@ -11,10 +12,20 @@ use borrow.Author.Needs.{needs}
 use Rattle.answer.proofs.texts.number_len.Statement.{statement}
 use Rattle.answer.proofs.texts.number_len.Tie as tie
 
+below-nought : (c : tie.Then1) → 0 < N (c .before .args .z)
+below-nought c = omega (ints, rw (toZ-ofZ (c .before .fits .z)) at (c .if1 .taken))
+
+not-below : (c : tie.Else1) → N (c .before .args .z) ≡ 0
+not-below c = omega (ints, apart (c .before .args .z), rw (toZ-ofZ (c .before .fits .z)) at (c .if1 .left))
+
+shown : (c : tie.After-magnitude) → c .magnitude .result ≡ N (c .before .before .args .z)
+shown c = c .magnitude .ensures ∙ ap N (toZ-ofZ (c .before .before .fits .z))
+
+counted : (c : tie.After-above) → c .above .result ≡ P (c .before .before .args .z)
+counted c = omega (arith, not-below (c .before), rw (toZ-ofZ (c .before .before .fits .z)) at (c .above .ensures))
+
 magnitude-requires : tie.Need-magnitude-requires
-magnitude-requires c κs =
-    let z = c .before .args .z in
-    rw (toZ-ofZ (c .before .fits .z)) (omega (ints, rw (toZ-ofZ (c .before .fits .z)) at (c .if1 .taken)))
+magnitude-requires c κs = rw (toZ-ofZ (c .before .fits .z)) (below-nought c)
 
 decimal-len-requires : tie.Need-decimal-len-requires
 decimal-len-requires c κs = search needs
@@ -23,28 +34,22 @@ add-result : tie.Need-add-result
 add-result c = omega arith
 
 returns : tie.Need-returns
-returns c =
-    let z = c .before .before .before .args .z in
-    let b = toZ-ofZ (c .before .before .before .fits .z) in
-    let neg : 0 < N z = omega (ints, rw b at (c .before .before .if1 .taken)) in
-    let m : c .before .magnitude .result ≡ N z = c .before .magnitude .ensures ∙ ap N b in
-    (omega (arith, below-length z neg, ap (λ k. length (decimal k)) m), omega arith)
+returns c = (
+  omega (arith, below-length (c .before .before .before .args .z) (below-nought (c .before .before)), ap (λ k. length (decimal k)) (shown (c .before))),
+  omega arith,
+)
 
 above-requires : tie.Need-above-requires
-above-requires c κs =
-    let z = c .before .args .z in
-    rw (toZ-ofZ (c .before .fits .z)) (omega (ints, apart z, rw (toZ-ofZ (c .before .fits .z)) at (c .if1 .left)), omega (ints, fits-read (c .before .fits .z)))
+above-requires c κs = rw (toZ-ofZ (c .before .fits .z)) (omega (arith, not-below c), omega (arith, fits-read (c .before .fits .z)))
 
 decimal-len-requires-2 : tie.Need-decimal-len-requires-2
 decimal-len-requires-2 c κs = search needs
 
 returns-2 : tie.Need-returns-2
-returns-2 c =
-    let z = c .before .before .before .args .z in
-    let b = toZ-ofZ (c .before .before .before .fits .z) in
-    let nonneg : N z ≡ 0 = omega (ints, apart z, rw b at (c .before .before .if1 .left)) in
-    let m : c .before .above .result ≡ P z = omega (arith, rw b at (c .before .above .ensures)) in
-    (omega (arith, above-length z nonneg, ap (λ k. length (decimal k)) m), omega arith)
+returns-2 c = (
+  omega (arith, above-length (c .before .before .before .args .z) (not-below (c .before .before)), ap (λ k. length (decimal k)) (counted (c .before))),
+  omega arith,
+)
 
 pub number-len-spec : {M : Type 1} → statement M
 number-len-spec =

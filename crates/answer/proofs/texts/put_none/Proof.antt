@@ -1,3 +1,4 @@
+-- `answer::texts::put_none` meets its contract: seven bytes, one after another. Assumes nothing.
 use native.Mathlib.Omega.{arith}
 use lib.ListN.{length-set}
 use Rattle.answer.proofs.Writers.{stored7}

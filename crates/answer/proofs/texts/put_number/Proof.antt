@@ -1,195 +1,105 @@
+-- `answer::texts::put_number` meets its contract: below 0 a hyphen and the digits of what it is below, else a count.
+-- Assumes nothing.
 use mathlib.Core.Path.{_≡_, refl, _∙_, ap}
 use mathlib.Core.List.{[], _∷_}
+use Prim.Native.Nat.{_+_, _≤_, _<_}
 use native.Mathlib.Omega.{arith}
 use lib.ListN.{length, length-set}
-use Rattle.answer.specs.Texts.{decimal, numberText}
-use Rattle.laws.specs.Lists.{front}
-use Rattle.laws.proofs.Fronts.{front-length, tail-within, tail-length, tail-home}
-use Prim.Native.Nat.{_<_}
 use mir.Facts.{toZ-ofZ}
 use Rattle.laws.specs.Parts.{P, N}
 use Rattle.laws.proofs.Ints.{ints, fits-read, apart}
-use Rattle.answer.proofs.Decimals.{digits-some}
-use Rattle.answer.proofs.Writers.{stored1, stored2, below-length, above-length, number-front, count-front}
+use Rattle.answer.specs.Texts.{tab, hyphen, front, decimal, numberText}
+use Rattle.answer.proofs.Fronts.{front-length, tail-length, tail-home}
+use Rattle.answer.proofs.Writers.{stored2, below-length, above-length, number-front, count-front}
 use borrow.Author.Needs.{needs}
 use Rattle.answer.proofs.texts.put_number.Statement.{statement}
 use Rattle.answer.proofs.texts.put_number.Tie as tie
+
+-- below 0: it is, there is room for the hyphen and the digits, and which number they show
+below-nought : (c : tie.Then1) → 0 < N (c .before .before .args .z)
+below-nought c = omega (ints, rw (toZ-ofZ (c .before .before .fits .z)) at (c .if1 .taken))
+
+room : (c : tie.Then1) → 2 + length (decimal (N (c .before .before .args .z))) ≤ length (c .before .before .args .out .now)
+room c = omega (arith, below-length (c .before .before .args .z) (below-nought c), c .before .before .pre)
+
+shown : (c : tie.After-magnitude) → c .magnitude .result ≡ N (c .before .before .before .args .z)
+shown c = c .magnitude .ensures ∙ ap N (toZ-ofZ (c .before .before .before .fits .z))
+
+-- else: it is not, and which number the count shows
+not-below : (c : tie.Else1) → N (c .before .before .args .z) ≡ 0
+not-below c = omega (ints, apart (c .before .before .args .z), rw (toZ-ofZ (c .before .before .fits .z)) at (c .if1 .left))
+
+counted : (c : tie.After-above) → c .above .result ≡ P (c .before .before .before .args .z)
+counted c = omega (arith, not-below (c .before), rw (toZ-ofZ (c .before .before .before .fits .z)) at (c .above .ensures))
 
 slice-write-out : tie.Need-slice-write-out
 slice-write-out c = search needs
 
 slice-write-out-2 : tie.Need-slice-write-out-2
-slice-write-out-2 c =
-    let a = c .before .before .args in
-    let z = a .z in
-    let neg : 0 < N z = omega (ints, rw (toZ-ofZ (c .before .before .fits .z)) at (c .if1 .taken)) in
-    simp length-set (omega (arith, below-length z neg, digits-some (N z), c .before .before .pre))
+slice-write-out-2 c = simp length-set (omega (arith, room c))
 
 magnitude-requires : tie.Need-magnitude-requires
-magnitude-requires c κs =
-    let a = c .before .before .args in
-    let l = a .out .now in
-    let z = a .z in
-    let b = toZ-ofZ (c .before .before .fits .z) in
-    let neg : 0 < N z = omega (ints, rw b at (c .if1 .taken)) in
-    let h = below-length z neg in
-    let e = stored2 l 9 45 (omega (arith, c .before .before .pre)) in
-    rw b neg
+magnitude-requires c κs = rw (toZ-ofZ (c .before .before .fits .z)) (below-nought c)
 
 sub-put-decimal : tie.Need-sub-put-decimal
-sub-put-decimal c =
-    let a = c .before .before .before .args in
-    let l = a .out .now in
-    let z = a .z in
-    let b = toZ-ofZ (c .before .before .before .fits .z) in
-    let neg : 0 < N z = omega (ints, rw b at (c .before .if1 .taken)) in
-    let h = below-length z neg in
-    let e = stored2 l 9 45 (omega (arith, c .before .before .before .pre)) in
-    tail-within (9 ∷ 45 ∷ []) l 2 e refl (omega (arith, c .before .before .before .pre))
+sub-put-decimal c = simp length-set (omega (arith, room (c .before)))
 
 part-put-decimal-start : tie.Need-part-put-decimal-start
-part-put-decimal-start c =
-    let a = c .before .before .before .args in
-    let l = a .out .now in
-    let z = a .z in
-    let b = toZ-ofZ (c .before .before .before .fits .z) in
-    let neg : 0 < N z = omega (ints, rw b at (c .before .if1 .taken)) in
-    let h = below-length z neg in
-    let e = stored2 l 9 45 (omega (arith, c .before .before .before .pre)) in
-    tail-within (9 ∷ 45 ∷ []) l 2 e refl (omega (arith, c .before .before .before .pre))
+part-put-decimal-start c = simp length-set (omega (arith, room (c .before)))
 
 part-put-decimal-end : tie.Need-part-put-decimal-end
 part-put-decimal-end c = search needs
 
 put-decimal-requires : tie.Need-put-decimal-requires
 put-decimal-requires c κs =
-    let a = c .before .before .before .before .args in
-    let l = a .out .now in
-    let z = a .z in
-    let b = toZ-ofZ (c .before .before .before .before .fits .z) in
-    let neg : 0 < N z = omega (ints, rw b at (c .before .before .if1 .taken)) in
-    let h = below-length z neg in
-    let e = stored2 l 9 45 (omega (arith, c .before .before .before .before .pre)) in
-    let m : c .before .magnitude .result ≡ N z = c .before .magnitude .ensures ∙ ap N b in
-    omega (arith, tail-length (9 ∷ 45 ∷ []) l 2 e refl (omega (arith, c .before .before .before .before .pre)), ap (λ k. length (decimal k)) m, c .before .before .before .before .pre)
+    let h = room (c .before .before) in
+    let l = c .before .before .before .before .args .out .now in
+    omega (
+      arith,
+      tail-length (tab ∷ hyphen ∷ []) l 2 (stored2 l tab hyphen (omega arith)) refl (omega arith),
+      ap (λ n. length (decimal n)) (shown (c .before)),
+    )
 
 add-result : tie.Need-add-result
-add-result c =
-    let a = c .before .before .before .before .before .before .before .args in
-    let l = a .out .now in
-    let z = a .z in
-    let b = toZ-ofZ (c .before .before .before .before .before .before .before .fits .z) in
-    let neg : 0 < N z = omega (ints, rw b at (c .before .before .before .before .before .if1 .taken)) in
-    let h = below-length z neg in
-    let e = stored2 l 9 45 (omega (arith, c .before .before .before .before .before .before .before .pre)) in
-    let m : c .before .before .before .before .magnitude .result ≡ N z = c .before .before .before .before .magnitude .ensures ∙ ap N b in
-    omega (arith, c .before .before .put-decimal .ensures .0, ap (λ k. length (decimal k)) m, c .before .before .before .before .before .before .before .pre)
+add-result c = omega (arith, c .before .before .put-decimal .ensures .0, room (c .before .before .before .before .before), ap (λ n. length (decimal n)) (shown (c .before .before .before .before)))
 
 returns : tie.Need-returns
 returns c =
-    let a = c .before .before .before .before .before .before .before .args in
-    let l = a .out .now in
-    let z = a .z in
-    let b = toZ-ofZ (c .before .before .before .before .before .before .before .fits .z) in
-    let neg : 0 < N z = omega (ints, rw b at (c .before .before .before .before .before .if1 .taken)) in
-    let h = below-length z neg in
-    let e = stored2 l 9 45 (omega (arith, c .before .before .before .before .before .before .before .pre)) in
-    let m : c .before .before .before .before .magnitude .result ≡ N z = c .before .before .before .before .magnitude .ensures ∙ ap N b in
+    let m = c .before .before .before .before in
+    let a = m .before .before .before .args in
+    let h = room (m .before) in
     let d = c .before .before .put-decimal in (
-      omega (arith, d .ensures .0, ap (λ k. length (decimal k)) m),
-      number-front z l neg (tail-home (9 ∷ 45 ∷ []) l 2 e refl (omega (arith, c .before .before .before .before .before .before .before .pre)) (decimal (c .before .before .before .before .magnitude .result)) (d .ensures .1) ∙ ap (λ k. front (9 ∷ 45 ∷ decimal k) l) m),
-    )
-
-above-requires : tie.Need-above-requires
-above-requires c κs =
-    let a = c .before .before .args in
-    let l = a .out .now in
-    let z = a .z in
-    let b = toZ-ofZ (c .before .before .fits .z) in
-    let nonneg : N z ≡ 0 = omega (ints, apart z, rw b at (c .if1 .left)) in
-    let h = above-length z nonneg in
-    let e = stored1 l 9 (omega (arith, c .before .before .pre)) in
-    rw b (omega arith, omega (arith, fits-read (c .before .before .fits .z)))
-
-sub-put-decimal-2 : tie.Need-sub-put-decimal-2
-sub-put-decimal-2 c =
-    let a = c .before .before .before .args in
-    let l = a .out .now in
-    let z = a .z in
-    let b = toZ-ofZ (c .before .before .before .fits .z) in
-    let nonneg : N z ≡ 0 = omega (ints, apart z, rw b at (c .before .if1 .left)) in
-    let h = above-length z nonneg in
-    let e = stored1 l 9 (omega (arith, c .before .before .before .pre)) in
-    tail-within (9 ∷ []) l 1 e refl (omega (arith, c .before .before .before .pre))
-
-part-put-decimal-start-2 : tie.Need-part-put-decimal-start-2
-part-put-decimal-start-2 c =
-    let a = c .before .before .before .args in
-    let l = a .out .now in
-    let z = a .z in
-    let b = toZ-ofZ (c .before .before .before .fits .z) in
-    let nonneg : N z ≡ 0 = omega (ints, apart z, rw b at (c .before .if1 .left)) in
-    let h = above-length z nonneg in
-    let e = stored1 l 9 (omega (arith, c .before .before .before .pre)) in
-    tail-within (9 ∷ []) l 1 e refl (omega (arith, c .before .before .before .pre))
-
-part-put-decimal-end-2 : tie.Need-part-put-decimal-end-2
-part-put-decimal-end-2 c = search needs
-
-put-decimal-requires-2 : tie.Need-put-decimal-requires-2
-put-decimal-requires-2 c κs =
-    let a = c .before .before .before .before .args in
-    let l = a .out .now in
-    let z = a .z in
-    let b = toZ-ofZ (c .before .before .before .before .fits .z) in
-    let nonneg : N z ≡ 0 = omega (ints, apart z, rw b at (c .before .before .if1 .left)) in
-    let h = above-length z nonneg in
-    let e = stored1 l 9 (omega (arith, c .before .before .before .before .pre)) in
-    let m : c .before .above .result ≡ P z = omega (arith, rw b at (c .before .above .ensures)) in
-    omega (arith, tail-length (9 ∷ []) l 1 e refl (omega (arith, c .before .before .before .before .pre)), ap (λ k. length (decimal k)) m, c .before .before .before .before .pre)
-
-add-result-2 : tie.Need-add-result-2
-add-result-2 c =
-    let a = c .before .before .before .before .before .before .before .args in
-    let l = a .out .now in
-    let z = a .z in
-    let b = toZ-ofZ (c .before .before .before .before .before .before .before .fits .z) in
-    let nonneg : N z ≡ 0 = omega (ints, apart z, rw b at (c .before .before .before .before .before .if1 .left)) in
-    let h = above-length z nonneg in
-    let e = stored1 l 9 (omega (arith, c .before .before .before .before .before .before .before .pre)) in
-    let m : c .before .before .before .before .above .result ≡ P z = omega (arith, rw b at (c .before .before .before .before .above .ensures)) in
-    omega (arith, c .before .before .put-decimal2 .ensures .0, ap (λ k. length (decimal k)) m, c .before .before .before .before .before .before .before .pre)
-
-returns-2 : tie.Need-returns-2
-returns-2 c =
-    let a = c .before .before .before .before .before .before .before .args in
-    let l = a .out .now in
-    let z = a .z in
-    let b = toZ-ofZ (c .before .before .before .before .before .before .before .fits .z) in
-    let nonneg : N z ≡ 0 = omega (ints, apart z, rw b at (c .before .before .before .before .before .if1 .left)) in
-    let h = above-length z nonneg in
-    let e = stored1 l 9 (omega (arith, c .before .before .before .before .before .before .before .pre)) in
-    let m : c .before .before .before .before .above .result ≡ P z = omega (arith, rw b at (c .before .before .before .before .above .ensures)) in
-    let d = c .before .before .put-decimal2 in (
-      omega (arith, d .ensures .0, ap (λ k. length (decimal k)) m),
-      count-front z l nonneg (tail-home (9 ∷ []) l 1 e refl (omega (arith, c .before .before .before .before .before .before .before .pre)) (decimal (c .before .before .before .before .above .result)) (d .ensures .1) ∙ ap (λ k. front (9 ∷ decimal k) l) m),
+      omega (arith, d .ensures .0, below-length (a .z) (below-nought (m .before)), ap (λ n. length (decimal n)) (shown m)),
+      number-front (a .z) (a .out .now) (below-nought (m .before))
+          (tail-home (tab ∷ hyphen ∷ []) (a .out .now) 2 (stored2 (a .out .now) tab hyphen (omega arith)) refl (omega arith) (decimal (m .magnitude .result)) (d .ensures .1)
+          ∙ ap (λ n. front (tab ∷ hyphen ∷ decimal n) (a .out .now)) (shown m)),
     )
 
 same-length : tie.Need-same-length
 same-length c =
-    let a = c .before .before .before .before .before .before .before .args in
-    let l = a .out .now in
-    let z = a .z in
-    let b = toZ-ofZ (c .before .before .before .before .before .before .before .fits .z) in
-    ap length (returns c .1) ∙ front-length (9 ∷ numberText z) l (omega (arith, c .before .before .before .before .before .before .before .pre))
+    let s = c .before .before .before .before .before .before .before in
+    ap length (returns c .1) ∙ front-length (tab ∷ numberText (s .args .z)) (s .args .out .now) (omega (arith, s .pre))
+
+above-requires : tie.Need-above-requires
+above-requires c κs =
+    rw (toZ-ofZ (c .before .before .fits .z)) (omega (arith, not-below c), omega (arith, fits-read (c .before .before .fits .z)))
+
+put-count-requires : tie.Need-put-count-requires
+put-count-requires c κs =
+    let s = c .before .before .before .before in
+    omega (arith, s .pre, above-length (s .args .z) (not-below (c .before .before)), ap (λ n. length (decimal n)) (counted (c .before)))
 
 same-length-2 : tie.Need-same-length-2
-same-length-2 c =
-    let a = c .before .before .before .before .before .before .before .args in
-    let l = a .out .now in
-    let z = a .z in
-    let b = toZ-ofZ (c .before .before .before .before .before .before .before .fits .z) in
-    ap length (returns-2 c .1) ∙ front-length (9 ∷ numberText z) l (omega (arith, c .before .before .before .before .before .before .before .pre))
+same-length-2 c = search needs
+
+returns-2 : tie.Need-returns-2
+returns-2 c =
+    let b = c .before .before .before .before in
+    let a = b .before .before .before .args in
+    let d = c .before .before .put-count in (
+      omega (arith, d .ensures .0, above-length (a .z) (not-below (b .before)), ap (λ n. length (decimal n)) (counted b)),
+      count-front (a .z) (a .out .now) (not-below (b .before)) (d .ensures .1 ∙ ap (λ n. front (tab ∷ decimal n) (a .out .now)) (counted b)),
+    )
 
 pub put-number-spec : {M : Type 1} → statement M
 put-number-spec =
@@ -206,10 +116,6 @@ put-number-spec =
     same-length
     returns
     above-requires
-    sub-put-decimal-2
-    part-put-decimal-start-2
-    part-put-decimal-end-2
-    put-decimal-requires-2
-    add-result-2
+    put-count-requires
     same-length-2
     returns-2)

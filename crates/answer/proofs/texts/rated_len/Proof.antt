@@ -1,3 +1,5 @@
+-- `answer::texts::rated_len` meets its contract: the length of a sheet, or of a refusal's number with its tab and the line feed.
+-- Assumes nothing.
 use mathlib.Core.Path.{sym, _∙_, ap}
 use native.Mathlib.Omega.{arith}
 use lib.ListN.{length}

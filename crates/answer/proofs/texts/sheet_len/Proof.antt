@@ -1,3 +1,5 @@
+-- `answer::texts::sheet_len` meets its contract: a tab before each of the six fields, the 0, the mark and the line feed are nine
+-- bytes, the rest the numbers'. Assumes nothing.
 use mathlib.Core.Path.{_∙_, ap}
 use native.Mathlib.Omega.{arith}
 use lib.ListN.{length}

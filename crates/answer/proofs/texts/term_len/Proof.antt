@@ -1,3 +1,4 @@
+-- `answer::texts::term_len` meets its contract: a number's length, or the hyphen's. Assumes nothing.
 use mathlib.Core.Path.{sym, _∙_, ap}
 use native.Mathlib.Omega.{arith}
 use lib.ListN.{length}

@@ -20,46 +20,27 @@ loop-holds c =
     going-start (a .input .now) (a .out .now) (a .skipping) (a .last)
 
 turn-at-requires : tie.Need-turn-at-requires Inv-loop μ-loop
-turn-at-requires c κs =
-    let a = c .before .before .before .before .before .args in
-    let l = c .before .before .loop in
-    (l .inv .within, (going-room (a .input .now) (a .out .now) (a .skipping) (a .last) (l .used) (l .wrote) (l .skip) (l .out) (l .inv), c .before .before .before .before .before .pre))
+turn-at-requires c κs = (c .before .before .loop .inv .within, (going-room (c .before .before .loop .inv), c .before .before .before .before .before .pre))
 
 loop-less : tie.Need-loop-less Inv-loop μ-loop
-loop-less c =
-    let a = c .before .before .before .before .before .before .before .before .before .before .args in
-    let l = c .before .before .before .before .before .before .before .loop in
-    omega (arith, turn-ahead (a .input .now) (a .out .now) (a .skipping) (a .last) (l .used) (l .wrote) (l .skip) (l .out) (l .inv) (c .before .before .before .before .turn-at .result) (c .before .before .before .before .turn-at .last .1 .1 .0) (c .before .before .before .before .turn-at .ensures) (c .if1 .left))
+loop-less c = omega (arith, turn-ahead (c .before .before .before .before .before .before .before .loop .inv) (c .before .before .before .before .turn-at .ensures) (c .if1 .left))
 
 loop-again : tie.Need-loop-again Inv-loop μ-loop
 loop-again c =
-    let a = c .before .before .before .before .before .before .before .before .before .before .args in
-    let l = c .before .before .before .before .before .before .before .loop in
-    going-on (a .input .now) (a .out .now) (a .skipping) (a .last) (l .used) (l .wrote) (l .skip) (l .out) (l .inv) (c .before .before .before .before .turn-at .result) (c .before .before .before .before .turn-at .last .1 .1 .0) (c .before .before .before .before .turn-at .ensures) (c .before .before .before .before .before .before .loop-test .taken) (c .if1 .left)
+    going-on (c .before .before .before .before .before .before .before .loop .inv) (c .before .before .before .before .turn-at .ensures) (c .before .before .before .before .before .before .loop-test .taken) (c .if1 .left)
 
 same-length : tie.Need-same-length Inv-loop μ-loop
-same-length c =
-    let a = c .before .before .before .before .args in
-    let l = c .before .loop in
-    going-length (a .input .now) (a .out .now) (a .skipping) (a .last) (l .used) (l .wrote) (l .skip) (l .out) (l .inv)
+same-length c = going-length (c .before .loop .inv)
 
 returns : tie.Need-returns Inv-loop μ-loop
-returns c =
-    let a = c .before .before .before .before .args in
-    let l = c .before .loop in
-    going-out (a .input .now) (a .out .now) (a .skipping) (a .last) (l .used) (l .wrote) (l .skip) (l .out) (l .inv) (c .loop-test .left)
+returns c = going-out (c .before .loop .inv) (c .loop-test .left)
 
 same-length-2 : tie.Need-same-length-2 Inv-loop μ-loop
 same-length-2 c =
-    let a = c .before .before .before .before .before .before .before .before .before .before .args in
-    let l = c .before .before .before .before .before .before .before .loop in
-    ap length (sym (kept (a .input .now) (a .out .now) (a .skipping) (a .last) (l .used) (l .wrote) (l .skip) (l .out) (l .inv) (c .before .before .before .before .turn-at .result) (c .before .before .before .before .turn-at .last .1 .1 .0) (c .before .before .before .before .turn-at .ensures) (c .if1 .taken))) ∙ going-length (a .input .now) (a .out .now) (a .skipping) (a .last) (l .used) (l .wrote) (l .skip) (l .out) (l .inv)
+    ap length (sym (kept (c .before .before .before .before .before .before .before .loop .inv) (c .before .before .before .before .turn-at .ensures) (c .if1 .taken))) ∙ going-length (c .before .before .before .before .before .before .before .loop .inv)
 
 returns-2 : tie.Need-returns-2 Inv-loop μ-loop
-returns-2 c =
-    let a = c .before .before .before .before .before .before .before .before .before .before .args in
-    let l = c .before .before .before .before .before .before .before .loop in
-    going-still (a .input .now) (a .out .now) (a .skipping) (a .last) (l .used) (l .wrote) (l .skip) (l .out) (l .inv) (c .before .before .before .before .turn-at .result) (c .before .before .before .before .turn-at .last .1 .1 .0) (c .before .before .before .before .turn-at .ensures) (c .if1 .taken)
+returns-2 c = going-still (c .before .before .before .before .before .before .before .loop .inv) (c .before .before .before .before .turn-at .ensures) (c .if1 .taken)
 
 pub turns-spec : {M : Type 1} → statement M
 turns-spec =

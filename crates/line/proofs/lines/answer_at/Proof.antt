@@ -1,6 +1,7 @@
 -- `line::lines::answer_at` meets its contract: the offset and the answer's length decide whether there is room, and the tail that
 -- was lent comes home. Assumes nothing.
-use Prim.Native.Nat.{_+_, _≤_}
+use mathlib.Core.List.{List}
+use Prim.Native.Nat.{ℕ, _+_, _≤_}
 use native.Mathlib.Omega.{arith}
 use lib.ListN.{length}
 use Rattle.reply.specs.Answers.{replyText}
@@ -12,20 +13,20 @@ use Rattle.line.proofs.lines.answer_at.Tie as tie
 reply-len-requires : tie.Need-reply-len-requires
 reply-len-requires c κs = search needs
 
+-- the answer
+abbrev text : tie.Start → List ℕ
+text c = replyText (c .args .s .now) (c .args .reply)
+
 returns : tie.Need-returns
-returns c =
-    let a = c .before .before .before .before .args in
-    let t = replyText (a .s .now) (a .reply) in
-    no-room (a .out .now) (a .at) t (omega arith)
+returns c = no-room (c .before .before .before .before .args .out .now) (c .before .before .before .before .args .at) (text (c .before .before .before .before)) (omega arith)
 
 sub-if2 : tie.Need-sub-if2
 sub-if2 c = search needs
 
 returns-2 : tie.Need-returns-2
 returns-2 c =
-    let a = c .before .before .before .before .before .args in
-    let t = replyText (a .s .now) (a .reply) in
-    no-room (a .out .now) (a .at) t (omega (arith, c .before .before .reply-len .ensures))
+    no-room (c .before .before .before .before .before .args .out .now) (c .before .before .before .before .before .args .at) (text (c .before .before .before .before .before))
+    (omega (arith, c .before .before .reply-len .ensures))
 
 sub-put-reply : tie.Need-sub-put-reply
 sub-put-reply c = search needs
@@ -41,10 +42,10 @@ put-reply-requires c κs = search needs
 
 returns-3 : tie.Need-returns-3
 returns-3 c =
-    let a = c .before .before .before .before .before .before .before .before .before .args in
-    let t = replyText (a .s .now) (a .reply) in
-    let h : a .at + length t ≤ length (a .out .now) = omega (arith, c .before .before .before .before .before .before .reply-len .ensures) in
-    (room-wrote (a .out .now) (a .at) t h (c .before .before .before .before .before .before .reply-len .result) (c .before .before .before .before .before .before .reply-len .ensures), room-home (a .out .now) (a .at) t h (c .before .before .put-reply .ensures))
+    let s = c .before .before .before .before .before .before .before .before .before in
+    let n = c .before .before .before .before .before .before .reply-len in
+    let h : s .args .at + length (text s) ≤ length (s .args .out .now) = omega (arith, n .ensures) in
+    (room-wrote (s .args .out .now) (s .args .at) (text s) h (n .result) (n .ensures), room-home (s .args .out .now) (s .args .at) (text s) h (c .before .before .put-reply .ensures))
 
 same-length : tie.Need-same-length
 same-length c = search needs

@@ -4,12 +4,18 @@ use native.Mathlib.Omega.{arith}
 use mir.Syntax.{w32}
 use mir.Val.{toZ, ofZ}
 use Rattle.quantity.proofs.Rim.{back}
+use Rattle.request.specs.declared.bands.Figure.the-variants.{Read}
 use Rattle.request.specs.Reading.{figureAt}
 use Rattle.request.specs.Gathering.{Short}
 use Rattle.request.proofs.Readers.{band-short}
 use borrow.Author.Needs.{needs}
 use Rattle.request.proofs.bands.band_at.Statement.{statement}
 use Rattle.request.proofs.bands.band_at.Tie as tie
+
+-- the figure that the short way read is the one that stands there, and it is small
+read : (c : tie.After-m) → let t = c .before .before in
+    let a = t .before .before .before .args in Short (figureAt (a .s .now) (a .at)) (Read (c .m .given .0 .0) (c .m .given .0 .1 .0))
+read c = subst (Short _) (c .m .given .1) (c .before .before .short-at .ensures)
 
 add-if1 : tie.Need-add-if1
 add-if1 c = search needs
@@ -21,11 +27,7 @@ enum-known-m : tie.Need-enum-known-m
 enum-known-m c = search needs
 
 less-requires : tie.Need-less-requires
-less-requires c κs =
-    let w = c .before .m .given in
-    let t = c .before .before .before in
-    let a = t .before .before .before .args in
-    omega (arith, subst (Short (figureAt (a .s .now) (a .at))) (w .1) (t .short-at .ensures) .1)
+less-requires c κs = omega (arith, read (c .before) .1)
 
 returns : tie.Need-returns
 returns c =

@@ -50,10 +50,9 @@ broken-requires c κs = tt
 
 returns : tie.Need-returns Inv-loop μ-loop
 returns c =
-    let a = c .before .before .before .before .before .before .before .args in
-    let l = c .before .before .before .before .before .loop in
-    out-broken (a .s .now) (a .start) (l .values) (l .marks) (l .weight) (l .count) (l .fault) (l .at) (l .inv) (c .before .before .band-at .result) (c .broken .result)
-    (sym (c .before .before .before .before .byte .ensures) ∙ c .before .before .before .if1 .taken) (c .before .before .band-at .ensures) (c .before .if2 .taken) (c .broken .ensures)
+    let b = c .before .before in
+    out-broken (b .before .before .before .loop .inv) (b .band-at .result) (c .broken .result)
+    (sym (b .before .before .byte .ensures) ∙ b .before .if1 .taken) (b .band-at .ensures) (c .before .if2 .taken) (c .broken .ensures)
 
 enum-known-given : tie.Need-enum-known-given Inv-loop μ-loop
 enum-known-given c = search needs
@@ -75,26 +74,21 @@ weight-of-requires c κs = tt
 
 add-marks : tie.Need-add-marks Inv-loop μ-loop
 add-marks c =
-    let b = c .before .before .before .before .before in
-    let l = b .before .before .before .loop in
-    omega (arith, l .inv .low, l .inv .high, weight-at-most (b .band-at .result .limit) (l .weight) (c .weight-of .result) (c .weight-of .ensures))
+    let e = c .before .before .before .before .before in
+    let w = e .before .before .before .loop in
+    omega (arith, w .inv .low, w .inv .high, weight-at-most (e .band-at .result .limit) (w .weight) (c .weight-of .result) (c .weight-of .ensures))
 
 add-weight : tie.Need-add-weight Inv-loop μ-loop
 add-weight c = omega (arith, c .before .before .before .before .before .before .before .before .loop .inv .high)
 
 add-count : tie.Need-add-count Inv-loop μ-loop
-add-count c =
-    let t = c .before .before .before .before in
-    omega (arith, t .before .before .loop .inv .short, here t)
+add-count c = omega (arith, c .before .before .before .before .before .before .loop .inv .short, here (c .before .before .before .before))
 
 loop-less : tie.Need-loop-less Inv-loop μ-loop
 loop-less c =
-    let e = c .before .before in
-    let b = e .before .band-at in
-    let t = e .before .before in
-    let l = t .before .before .loop in
-    let a = t .before .before .before .before .args in
-    omega (arith, here t, further (a .s .now) (a .start) (l .values) (l .marks) (l .weight) (l .count) (l .fault) (l .at) (l .inv) (b .result) (sym (t .before .byte .ensures) ∙ t .if1 .taken) (b .ensures) (e .if2 .left))
+    let n = c .before .before in
+    let k = n .before .before in
+    omega (arith, here k, further (k .before .before .loop .inv) (n .before .band-at .result) (sym (k .before .byte .ensures) ∙ k .if1 .taken) (n .before .band-at .ensures) (n .if2 .left))
 
 loop-again : tie.Need-loop-again Inv-loop μ-loop
 loop-again c =
@@ -103,13 +97,12 @@ loop-again c =
     let b = e .before .band-at in
     let t = e .before .before in
     let l = t .before .before .loop in
-    let a = t .before .before .before .before .args in
     ⊎-elim
-    (λ w. again-few (a .s .now) (a .start) (l .values) (l .marks) (l .weight) (l .count) (l .fault) (l .at) (l .inv)
+    (λ w. again-few (l .inv)
     (b .result) (sym (t .before .byte .ensures) ∙ t .if1 .taken) (b .ensures) (e .if2 .left)
     (c .if3 .values) (c .if3 .marks) (c .if3 .weight) (m .match .fault) (first m)
     (w .2 .result) (w .2 .ensures) (w .0 .taken) (w .3) (w .4) (w .5))
-    (λ w. again-many (a .s .now) (a .start) (l .values) (l .marks) (l .weight) (l .count) (l .fault) (l .at) (l .inv)
+    (λ w. again-many (l .inv)
     (b .result) (sym (t .before .byte .ensures) ∙ t .if1 .taken) (b .ensures) (e .if2 .left)
     (c .if3 .values) (c .if3 .marks) (c .if3 .weight) (m .match .fault) (first m)
     (w .0 .left) (w .1) (w .2) (w .3))
@@ -123,27 +116,19 @@ broken-requires-2 c κs = tt
 
 returns-2 : tie.Need-returns-2 Inv-loop μ-loop
 returns-2 c =
-    let a = c .before .before .before .before .before .before .before .args in
-    let l = c .before .before .before .before .before .loop in
-    out-none (a .s .now) (a .start) (l .values) (l .marks) (l .weight) (l .count) (l .fault) (l .at) (l .inv) (c .broken2 .result) (λ e. c .before .before .before .if1 .left (c .before .before .before .before .byte .ensures ∙ e))
+    let h = c .before .before .before in
+    out-none (h .before .before .loop .inv) (c .broken2 .result) (λ e. h .if1 .left (h .before .byte .ensures ∙ e))
     (λ e. c .before .if4 .taken (c .before .before .byte2 .ensures ∙ e)) (c .broken2 .ensures)
 
 add-t25 : tie.Need-add-t25 Inv-loop μ-loop
 add-t25 c =
-    let a = c .before .before .before .before .before .before .args in
-    let l = c .before .before .before .before .loop in
-    omega (arith, inside-byte (a .s .now) (l .at) (c .before .byte2 .result) (c .before .byte2 .ensures) (omega arith))
+    omega (arith, inside-byte (c .before .before .before .before .before .before .args .s .now) (c .before .before .before .before .loop .at) (c .before .byte2 .result) (c .before .byte2 .ensures) (omega arith))
 
 cast-t26 : tie.Need-cast-t26 Inv-loop μ-loop
-cast-t26 c =
-    let l = c .before .before .before .before .loop in
-    omega (arith, l .inv .low, l .inv .high)
+cast-t26 c = omega (arith, c .before .before .before .before .loop .inv .low, c .before .before .before .before .loop .inv .high)
 
 returns-3 : tie.Need-returns-3 Inv-loop μ-loop
-returns-3 c =
-    let a = c .before .before .before .before .before .before .args in
-    let l = c .before .before .before .before .loop in
-    out-end (a .s .now) (a .start) (l .values) (l .marks) (l .weight) (l .count) (l .fault) (l .at) (l .inv) (sym (c .before .byte2 .ensures) ∙ c .if4 .left)
+returns-3 c = out-end (c .before .before .before .before .loop .inv) (sym (c .before .byte2 .ensures) ∙ c .if4 .left)
 
 pub bands-at-spec : {M : Type 1} → statement M
 bands-at-spec =

@@ -20,8 +20,7 @@ figure-at-requires c κs = search needs
 
 signed-requires : tie.Need-signed-requires
 signed-requires c κs =
-    let a = c .before .before .before .before .args in
-    figure-small (a .s .now) (a .at + 1) (c .figure-at .result) (c .figure-at .ensures)
+    figure-small (c .before .before .before .before .args .s .now) (c .before .before .before .before .args .at + 1) (c .figure-at .result) (c .figure-at .ensures)
 
 returns : tie.Need-returns
 returns c =
@@ -34,14 +33,14 @@ figure-at-requires-2 c κs = search needs
 
 signed-requires-2 : tie.Need-signed-requires-2
 signed-requires-2 c κs =
-    let a = c .before .before .before .before .args in
-    figure-small (a .s .now) (a .at) (c .figure-at2 .result) (c .figure-at2 .ensures)
+    figure-small (c .before .before .before .before .args .s .now) (c .before .before .before .before .args .at) (c .figure-at2 .result) (c .figure-at2 .ensures)
 
 returns-2 : tie.Need-returns-2
 returns-2 c =
-    let a = c .before .before .before .before .before .args in
-    level-plus (a .s .now) (a .at) (a .limit) (c .before .before .before .byte .result) (c .before .figure-at2 .result) (c .signed2 .result)
-    (c .before .before .before .byte .ensures) (c .before .before .if1 .left) (c .before .figure-at2 .ensures) (c .signed2 .ensures)
+    let b = c .before .before .before in
+    let s = b .before .before in
+    level-plus (s .args .s .now) (s .args .at) (s .args .limit) (b .byte .result) (c .before .figure-at2 .result) (c .signed2 .result)
+    (b .byte .ensures) (c .before .before .if1 .left) (c .before .figure-at2 .ensures) (c .signed2 .ensures)
 
 pub level-at-spec : {M : Type 1} → statement M
 level-at-spec =
