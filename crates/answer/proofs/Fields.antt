@@ -12,8 +12,9 @@ use borrow.Rule.Slice.PartMut.{putMid, midOf}
 use Rattle.rating.specs.declared.sheets.Sheet.{Sheet}
 use Rattle.answer.specs.declared.texts.Field.{Field}
 use Rattle.answer.specs.declared.texts.Field.the-variants.{Number, Count, Sign, Nothing}
-use Rattle.answer.specs.Texts.{tab, lineFeed, digit, decimal, numberText, termText, setText, sheetFields, others, front, fieldTexts, textsOf, tabbed}
-use Rattle.answer.proofs.Fronts.{front-more, tail-home}
+use Rattle.answer.specs.Texts.{tab, lineFeed, digit, decimal, numberText, termText, setText, sheetFields, others, fieldTexts, textsOf, tabbed}
+use Rattle.laws.specs.Lists.{front}
+use Rattle.laws.proofs.Fronts.{front-more, tail-home}
 
 texts-append : (a b : List Field) → textsOf (a ++ b) ≡ textsOf a ++ textsOf b
 unfolding textsOf

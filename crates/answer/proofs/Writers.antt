@@ -14,9 +14,10 @@ use Rattle.quantity.specs.Refusals.{numberOf}
 use Rattle.quantity.specs.declared.refusals.Refusal.{Refusal}
 use Rattle.quantity.specs.declared.refusals.Refusal.the-variants.{BandCount, NotFinite, NoReading, BandRange, Background, DerivedRange, TimeRange, NotBetter, TargetRange, NoRoom, NotRequest, SpecimenCount, PriceRange, OtherBands, RegisterFull, RegisterDamaged}
 use Rattle.rating.specs.declared.sheets.Sheet.{Sheet}
-use Rattle.answer.specs.Texts.{tab, hyphen, digit, others, lineText, decimal, numberText, termText, setText, sheetFields, noRequestText, front}
+use Rattle.answer.specs.Texts.{tab, hyphen, digit, others, lineText, decimal, numberText, termText, setText, sheetFields, noRequestText}
+use Rattle.laws.specs.Lists.{front}
 use Rattle.answer.proofs.Decimals.{decimal-one, decimal-more}
-use Rattle.answer.proofs.Fronts.{front-more, front-length}
+use Rattle.laws.proofs.Fronts.{front-more, front-length}
 
 pub stored1 : (l : List ℕ) (x : ℕ) → 1 ≤ length l → set l 0 x ≡ front (x ∷ []) l
 stored1 l x h = front-more [] l 0 x refl h

@@ -4,7 +4,6 @@ use mathlib.Core.List.{List, [], _∷_, _++_}
 use Prim.Native.Nat.{ℕ, zero, suc, _+_, _/_, _%_}
 use lib.Dec.{ltb}
 use lib.IntN.{ℤ, pos, negsuc}
-use lib.ListN.{length, drop}
 use Rattle.quantity.specs.Refusals.{numberOf}
 use Rattle.rating.specs.declared.kinds.Kind.{Kind}
 use Rattle.rating.specs.declared.kinds.Kind.the-variants.{A3, A1, I3, I1}
@@ -86,10 +85,6 @@ ratedText kind key rated = lineText (kindText kind) (key ∷ fieldsOf rated)
 -- "for 11, `?`, `?`, 11": 63 is ?
 unfoldable pub noRequestText : List ℕ
 noRequestText = lineText (63 ∷ []) ((63 ∷ []) ∷ decimal 11 ∷ [])
-
--- a field written at the front of a buffer: the bytes after it stay
-abbrev pub front : List ℕ → List ℕ → List ℕ
-front t l = t ++ drop (length t) l
 
 -- the text of one field of the code, and the texts of those that are there; texts behind tabs, without the line feed
 unfoldable pub fieldTexts : Field → List (List ℕ)

@@ -10,7 +10,8 @@ ghost use mathlib.Core.List.{_++_, _∷_, []};
 ghost use Prim.Native.Nat.{_+_, _≤_, _<_};
 ghost use lib.ListN.{length, take, drop};
 ghost use Rattle.laws.specs.Parts.{N};
-ghost use Rattle.answer.specs.Texts.{decimal, numberText, termText, kindText, others, setText, sheetFields, fieldsOf, noRequestText, front, tab, fieldTexts, textsOf, tabbed};
+ghost use Rattle.answer.specs.Texts.{decimal, numberText, termText, kindText, others, setText, sheetFields, fieldsOf, noRequestText, tab, fieldTexts, textsOf, tabbed};
+ghost use Rattle.laws.specs.Lists.{front};
 
 // How many digits a number has.
 fn decimal_len(n: u32) -> usize

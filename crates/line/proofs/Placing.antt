@@ -15,7 +15,8 @@ use Rattle.rating.specs.declared.kinds.Kind.{Kind}
 use Rattle.reply.specs.declared.requests.Reply.{Reply}
 use Rattle.line.specs.declared.lines.Wrote.the-variants as wrote
 use Rattle.request.specs.Texts.{Band}
-use Rattle.answer.specs.Texts.{ratedText, noRequestText, front}
+use Rattle.answer.specs.Texts.{ratedText, noRequestText}
+use Rattle.laws.specs.Lists.{front}
 use Rattle.request.specs.Reading.{Asked, requestAt, Request, whole, requestOf}
 use Rattle.request.specs.Reading.Asked.{asked}
 use Rattle.request.specs.Reading.Request.{request}

@@ -9,9 +9,9 @@ use lib.Dec.{ltb, eqb}
 use lib.ListN.{length, take, drop, length-append, length-drop}
 use lib.Seq.{take-at, drop-append-add, drop-drop}
 use Rattle.line.specs.declared.blocks.Turn.{Turn}
-use Rattle.answer.specs.Texts.{front}
+use Rattle.laws.specs.Lists.{front}
 use Rattle.line.specs.Blocks.{Step, stepAt, Block, blockFrom, blockOf, Turned, Answered}
-use Rattle.answer.proofs.Fronts.{front-length}
+use Rattle.laws.proofs.Fronts.{front-length}
 use Rattle.line.proofs.Turns.{piece-ahead, none-placed, feed-most, Came, came}
 
 -- a step lies ahead, and within

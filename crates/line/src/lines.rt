@@ -13,7 +13,7 @@ use reply::reply_at;
 ghost use mathlib.Core.Path.{_≡_};
 ghost use Prim.Native.Nat.{_≤_};
 ghost use lib.ListN.{length};
-ghost use Rattle.answer.specs.Texts.{front};
+ghost use Rattle.laws.specs.Lists.{front};
 ghost use Rattle.reply.specs.Answers.{Keyed, answerOf, replyText};
 ghost use Rattle.line.specs.Answers.{placed, wroteOf};
 

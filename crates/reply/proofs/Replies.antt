@@ -18,7 +18,7 @@ use Rattle.quantity.specs.declared.refusals.Outcome.{Outcome}
 use Rattle.quantity.specs.declared.refusals.Outcome.the-variants as outcome
 use Rattle.quantity.specs.Refusals.{orElse}
 use Rattle.curve.specs.Bands.{accepted}
-use Rattle.curve.proofs.Walks.{all-made}
+use Rattle.laws.proofs.Ranges.{all-made}
 use Rattle.rating.specs.declared.kinds.Kind.{Kind}
 use Rattle.rating.specs.declared.kinds.Kind.the-variants.{A3, A1, I3, I1}
 use Rattle.rating.specs.declared.sheets.Rated.{Rated}

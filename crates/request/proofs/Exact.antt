@@ -23,6 +23,7 @@ use Rattle.request.proofs.Leaves.{inside, digit-read, digit-made}
 use Rattle.request.proofs.Readers.{tenth-got, third-point, second-point, second-more, first-point, first-more, figure-some, figure-none}
 use Rattle.answer.proofs.Decimals.{decimal-one, decimal-step}
 use Rattle.request.proofs.Stands.{Stands, Stood, one-more, joined, move}
+use Rattle.laws.proofs.Fronts.{snoc-length}
 
 figure-step : (a b : ℕ) → b < 10 → figureText (10 * a + b) ≡ (decimal a ++ (46 ∷ [])) ++ ((48 + b) ∷ [])
 unfolding figureText
@@ -50,9 +51,6 @@ FigureOk s at Nothing = Unit {0}
 if-ok : (s : List ℕ) (at : ℕ) (t : Bool) (a b : Figure) → (t ≡ true → FigureOk s at a) → (t ≡ false → FigureOk s at b) → FigureOk s at (cond t a b)
 if-ok s at true a b f g = f refl
 if-ok s at false a b f g = g refl
-
-snoc-length : (t : List ℕ) (b : ℕ) → length (t ++ (b ∷ [])) ≡ suc (length t)
-snoc-length t b = length-append t (b ∷ []) ∙ omega arith
 
 digit-stands : (s : List ℕ) (j : ℕ) → digitAt s j < 10 → Stood s j (48 + digitAt s j)
 digit-stands s j h =

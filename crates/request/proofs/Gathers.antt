@@ -6,7 +6,7 @@ use Prim.Native.Nat.{ℕ, zero, suc, _+_, _*_, _-_, _^_, _≤_, _<_}
 use native.Mathlib.Nat.{pow-suc}
 use lib.Pow.{pow-mono}
 use native.Mathlib.Omega.{arith}
-use lib.ListN.{length, set, replicate, length-append, length-map, length-set}
+use lib.ListN.{length, set, replicate, length-map, length-set}
 use lib.Seq.{set-at}
 use Rattle.quantity.specs.Keys.{byteAt}
 use Rattle.quantity.specs.declared.quantities.Tenths.{Tenths}
@@ -20,10 +20,12 @@ use Rattle.request.specs.Texts.{Band}
 use Rattle.request.specs.Reading.{Found, bandAt, Bands, bandsFrom, bandsAt}
 use Rattle.request.specs.Reading.Found.{found}
 use Rattle.request.specs.Reading.Bands.{broken, ended}
-use Rattle.request.specs.Gathering.{nought, valueOf, markOf, faultOf, firstFault, bitOf, marksOf, valuesOf, fieldOf, weightBy, GatheredAt}
+use Rattle.request.specs.Gathering.{nought, valueOf, markOf, faultOf, firstFault, marksOf, valuesOf, fieldOf, weightBy, GatheredAt}
+use Rattle.laws.specs.Extremes.{one-if}
 use Rattle.request.proofs.Leaves.{inside}
 use Rattle.request.proofs.Readers.{bands-tab, bands-broken, bands-end, bands-none}
 use Rattle.request.proofs.Exact.{band-ok, FoundOk}
+use Rattle.laws.proofs.Fronts.{snoc-length}
 
 -- one band more, at the end
 or-none : (o : Outcome) → orElse o Accepted ≡ o
@@ -43,11 +45,11 @@ marks-more : (bs : List Band) (b : Band) → marksOf (bs ++ (b ∷ [])) ≡ mark
 unfolding marksOf
 marks-more [] b = last (markOf b)
   where
-    last : (m : Bool) → bitOf m + 2 * 0 ≡ 0 + weightBy m 1
+    last : (m : Bool) → one-if m + 2 * 0 ≡ 0 + weightBy m 1
     last true = refl
     last false = refl
 marks-more (x ∷ bs) b =
-    ap (λ (k : ℕ). bitOf (markOf x) + 2 * k) (marks-more bs b) ∙ regroup (bitOf (markOf x)) (marksOf bs) (2 ^ length bs) (2 ^ suc (length bs)) (pow-suc 2 (length bs) ∙ omega arith) (markOf b)
+    ap (λ (k : ℕ). one-if (markOf x) + 2 * k) (marks-more bs b) ∙ regroup (one-if (markOf x)) (marksOf bs) (2 ^ length bs) (2 ^ suc (length bs)) (pow-suc 2 (length bs) ∙ omega arith) (markOf b)
   where
     regroup : (x m w w2 : ℕ) → w2 ≡ 2 * w → (t : Bool) → x + 2 * (m + weightBy t w) ≡ x + 2 * m + weightBy t w2
     regroup x m w w2 e true = omega arith
@@ -56,9 +58,6 @@ marks-more (x ∷ bs) b =
 map-more : (bs : List Band) (b : Band) → map valueOf (bs ++ (b ∷ [])) ≡ map valueOf bs ++ (valueOf b ∷ [])
 map-more [] b = refl
 map-more (x ∷ bs) b = ap (λ (l : List Tenths). valueOf x ∷ l) (map-more bs b)
-
-snoc-length : (bs : List Band) (b : Band) → length (bs ++ (b ∷ [])) ≡ suc (length bs)
-snoc-length bs b = length-append bs (b ∷ []) ∙ omega arith
 
 values-more : (bs : List Band) (b : Band) → length bs < 16 → set (valuesOf bs) (length bs) (valueOf b) ≡ valuesOf (bs ++ (b ∷ []))
 unfolding valuesOf

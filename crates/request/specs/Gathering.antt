@@ -21,6 +21,7 @@ use Rattle.request.specs.Texts.Band.{missing, level}
 use Rattle.request.specs.Reading.{Found, Bands}
 use Rattle.request.specs.Reading.Found.{found}
 use Rattle.request.specs.Reading.Bands.{broken, ended}
+use Rattle.laws.specs.Extremes.{one-if}
 
 -- a band's value and its mark; a missing band has none
 abbrev pub nought : Tenths
@@ -45,13 +46,9 @@ firstFault [] = Accepted
 firstFault (b ∷ bs) = orElse (faultOf b) (firstFault bs)
 
 -- bit i of the marks for band i
-abbrev pub bitOf : Bool → ℕ
-bitOf true = 1
-bitOf false = 0
-
 unfoldable pub marksOf : List Band → ℕ
 marksOf [] = 0
-marksOf (b ∷ bs) = bitOf (markOf b) + 2 * marksOf bs
+marksOf (b ∷ bs) = one-if (markOf b) + 2 * marksOf bs
 
 -- the values of a set of at most 16 bands
 unfoldable pub valuesOf : List Band → List Tenths

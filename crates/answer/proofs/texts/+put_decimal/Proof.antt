@@ -4,7 +4,7 @@ use mathlib.Core.Path.{_≡_, _∙_, ap}
 use native.Mathlib.Omega.{arith}
 use lib.ListN.{length, length-set}
 use Rattle.answer.specs.Texts.{digit, decimal}
-use Rattle.answer.proofs.Fronts.{front-length}
+use Rattle.laws.proofs.Fronts.{front-length}
 use Rattle.answer.proofs.Writers.{one-length, two-length, more-length, digits-one, digits-two, digits-more}
 use Prim.Native.Nat.{ℕ, _<_, _+_, _/_, _%_}
 use borrow.Fn.Kinds.{In}

@@ -3,8 +3,9 @@ use mathlib.Core.Path.{_≡_, refl, _∙_, ap}
 use mathlib.Core.List.{[], _∷_}
 use native.Mathlib.Omega.{arith}
 use lib.ListN.{length, set, length-set}
-use Rattle.answer.specs.Texts.{tab, front, decimal}
-use Rattle.answer.proofs.Fronts.{front-length, tail-length, tail-home}
+use Rattle.answer.specs.Texts.{tab, decimal}
+use Rattle.laws.specs.Lists.{front}
+use Rattle.laws.proofs.Fronts.{front-length, tail-length, tail-home}
 use Rattle.answer.proofs.Writers.{stored1}
 use borrow.Author.Needs.{needs}
 use Rattle.answer.proofs.texts.put_count.Statement.{statement}

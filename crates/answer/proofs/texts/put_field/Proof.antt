@@ -6,7 +6,8 @@ use lib.ListN.{length, length-set}
 use mir.Syntax.{w32}
 use mir.Val.{toZ, ofZ}
 use Rattle.quantity.proofs.Rim.{back}
-use Rattle.answer.specs.Texts.{tab, decimal, numberText, front, fieldTexts, tabbed}
+use Rattle.answer.specs.Texts.{tab, decimal, numberText, fieldTexts, tabbed}
+use Rattle.laws.specs.Lists.{front}
 use Rattle.answer.proofs.Writers.{stored2}
 use Rattle.answer.proofs.Fields.{number-tabbed, count-tabbed, sign-tabbed, nothing-tabbed}
 use borrow.Author.Needs.{needs}

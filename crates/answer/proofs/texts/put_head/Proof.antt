@@ -4,8 +4,9 @@ use Prim.Native.Nat.{ℕ}
 use mathlib.Core.List.{List, [], _∷_, _++_}
 use native.Mathlib.Omega.{arith}
 use lib.ListN.{take, drop, set, length-set, length-take}
-use Rattle.answer.specs.Texts.{tab, front}
-use Rattle.answer.proofs.Fronts.{tail-length, tail-home, tail-same}
+use Rattle.answer.specs.Texts.{tab}
+use Rattle.laws.specs.Lists.{front}
+use Rattle.laws.proofs.Fronts.{tail-length, tail-home, tail-same}
 use Rattle.answer.proofs.Writers.{stored3}
 use borrow.Author.Needs.{needs}
 use Rattle.answer.proofs.texts.put_head.Statement.{statement}

@@ -4,7 +4,7 @@ use mathlib.Core.List.{List}
 use Prim.Native.Nat.{ℕ, _-_, _≤_}
 use native.Mathlib.Omega.{arith}
 use lib.ListN.{length, take, drop}
-use Rattle.answer.specs.Texts.{front}
+use Rattle.laws.specs.Lists.{front}
 use Rattle.answer.proofs.Writers.{key-length, key-turn}
 use Rattle.answer.proofs.texts.put_key.Statement.{statement}
 use Rattle.answer.proofs.texts.put_key.Tie as tie

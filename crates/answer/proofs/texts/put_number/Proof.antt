@@ -8,8 +8,9 @@ use lib.ListN.{length, length-set}
 use mir.Facts.{toZ-ofZ}
 use Rattle.laws.specs.Parts.{P, N}
 use Rattle.laws.proofs.Ints.{ints, fits-read, apart}
-use Rattle.answer.specs.Texts.{tab, hyphen, front, decimal, numberText}
-use Rattle.answer.proofs.Fronts.{front-length, tail-length, tail-home}
+use Rattle.answer.specs.Texts.{tab, hyphen, decimal, numberText}
+use Rattle.laws.specs.Lists.{front}
+use Rattle.laws.proofs.Fronts.{front-length, tail-length, tail-home}
 use Rattle.answer.proofs.Writers.{stored2, below-length, above-length, number-front, count-front}
 use borrow.Author.Needs.{needs}
 use Rattle.answer.proofs.texts.put_number.Statement.{statement}

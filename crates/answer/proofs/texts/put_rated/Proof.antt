@@ -7,8 +7,9 @@ use borrow.Author.Needs.{needs}
 use lib.ListN.{length, getD}
 use lib.IntN.{pos}
 use Rattle.answer.specs.declared.texts.Field.the-variants.{Number}
-use Rattle.answer.specs.Texts.{front, others, fieldsOf, fieldTexts, textsOf, tabbed}
-use Rattle.answer.proofs.Fronts.{front-length, tail-within, tail-length}
+use Rattle.answer.specs.Texts.{others, fieldsOf, fieldTexts, textsOf, tabbed}
+use Rattle.laws.specs.Lists.{front}
+use Rattle.laws.proofs.Fronts.{front-length, tail-within, tail-length}
 use Rattle.answer.proofs.Fields.{done, done-within, done-length, field-home, line-home}
 use Rattle.answer.proofs.texts.put_rated.Statement.{statement}
 use Rattle.answer.proofs.texts.put_rated.Tie as tie

@@ -4,8 +4,9 @@ use mathlib.Core.List.{List, _∷_, _++_}
 use Prim.Native.Nat.{ℕ, _+_, _≤_}
 use native.Mathlib.Omega.{arith}
 use lib.ListN.{length, take, drop}
-use Rattle.answer.specs.Texts.{tab, front, kindText, others, fieldsOf}
-use Rattle.answer.proofs.Fronts.{tail-within, tail-length, tail-home}
+use Rattle.answer.specs.Texts.{tab, kindText, others, fieldsOf}
+use Rattle.laws.specs.Lists.{front}
+use Rattle.laws.proofs.Fronts.{tail-within, tail-length, tail-home}
 use Rattle.answer.proofs.Writers.{none-length}
 use Rattle.reply.specs.declared.requests.Reply.{Reply}
 use Rattle.reply.proofs.Replies.{reply-none, reply-some, head-length, reply-length}
