@@ -12,7 +12,7 @@ from tidy import untidy
 
 FILES = {
     "crates.txt": "base:\nbeside:\ntop: base beside\n",
-    "docs/PROOFS.md": "The theorem is `Laws.told`.\n",
+    "docs/PROOFS.md": "The theorem is `Laws.told` of `top`, by `gone` and `specs/`.\n",
     "crates/base/src/lib.rt": (
         "ghost use mathlib.Core.Path.{_≡_};\n"
         "ghost use Rattle.base.specs.Words.{doubled, halved};\n"
@@ -47,6 +47,7 @@ FOUND = {
     "crates/base/src/lib.rt:2: halved is imported and not used",
     "crates/base/src/lib.rt:8: nothing calls lost",
     "crates.txt:3: top does not use beside",
+    "docs/PROOFS.md:1: there is no gone",
     "crates/top/proofs/twice/Proof.antt:1: the first line does not name top::twice",
     "crates/top/proofs/twice/Proof.antt:2: a position in the code",
 }

@@ -3,14 +3,15 @@
 
     python3 tests/tidy/tidy.py [ROOT]
 
-Five lists, each line with its file and place:
+Six lists, each line with its file and place:
 
 - a name that a logic file (.antt) defines and nothing cites: no other definition of its file, no import of another file, no
   contract, and no page of docs/ (which is how a theorem counts as used: a page says what it is for);
 - a name that a logic file imports, or that a contract's `ghost use` brings in, and does not use;
 - a function of the code (.rt) that no function names, unless it is open to callers of `desk` or `desk_c`;
 - a crate that crates.txt lists for a crate whose files never name it;
-- a proof of a function whose first line does not name that function, and a comment that gives a position in the code.
+- a proof of a function whose first line does not name that function, and a comment that gives a position in the code;
+- a name in code marks on the page docs/PROOFS.md that stands nowhere in the crates.
 
 It reads words, not meanings: a name counts as cited where the same word stands in a place that could mean it.
 """
@@ -164,6 +165,15 @@ def headers_wrong(files):
                 yield f"{file.path}:{number}: a position in the code"
 
 
+def pages_stale(root, files, code):
+    known = {name for file in files for name, *_ in file.definitions} | {file.module for file in files}
+    known |= set(re.findall(r"\w+", "\n".join(code.values()))) | {path.name for path in root.glob("crates/*")}
+    for number, line in enumerate((root / "docs/PROOFS.md").read_text().split("\n"), 1):
+        for word in (word for span in re.findall(r"`([^`]+)`", line) for word in re.split(r"[\s(),;]+|::|\.(?=\w)", span)):
+            if word not in known and re.fullmatch(r"[^/?&*.]+", word):
+                yield f"docs/PROOFS.md:{number}: there is no {word}"
+
+
 def untidy(root):
     files = [Logic(path, root) for path in sorted(root.glob("crates/*/**/*.antt")) if "target" not in path.parts]
     code = {path.relative_to(root): path.read_text() for path in sorted(root.glob("crates/*/src/**/*.rt"))}
@@ -174,6 +184,7 @@ def untidy(root):
     yield from functions_uncalled(code)
     yield from crates_unused(root, files, code)
     yield from headers_wrong(files)
+    yield from pages_stale(root, files, code)
 
 
 def main():
