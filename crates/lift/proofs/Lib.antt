@@ -1,4 +1,5 @@
 -- Laws of the lift list.
+pub mod Turns
 pub mod Joined
 pub mod Reached
 pub mod Listing

@@ -126,6 +126,13 @@ module _ (g : ℕ → ℕ) where
         omega (arith, sum-is, least-is, ltb→lt (gainsOf g (m + 2 ^ i) 16) (need + leastOf g (m + 2 ^ i) 16) (and-right reach near t)),
       )
 
+-- a set of bands below band i, and band i as its last: it is listed, falls short, or one of the others is idle
+pub record Last (g : ℕ → ℕ) (need n m s l i : ℕ) : Type 0 where
+  pub below : m < 2 ^ i
+  pub listed : need - s ≤ g i → g i < need - s + l → joinedBy g need n 1 m i ≡ (m + 2 ^ i) ∷ joinedBy g need n 1 m (i + 1)
+  pub short : g i < need - s → joinedBy g need n 1 m i ≡ joinedBy g need n 1 m (i + 1)
+  pub idle : need - s + l ≤ g i → joinedBy g need n 1 m i ≡ joinedBy g need n 1 m (i + 1)
+
 -- ---- the list in the order in which sets are put together
 module _ (g : ℕ → ℕ) (need n : ℕ) where
   abbrev ok : ℕ → Bool
@@ -214,20 +221,18 @@ module _ (g : ℕ → ℕ) (need n : ℕ) where
         ∙ ap (λ (l : List ℕ). l ++ joinedBy g need n 1 m (i + 1))
         (joined-none (m + 2 ^ i) (i + 1) ∙ ap (λ (c : Bool). cond c ((m + 2 ^ i) ∷ []) []) e)
 
-    module _ (i : ℕ) (k : j ≤ i) (h : i < n) where
-      listed-not : ((need ≤ s + g i) × (s + g i < need + min l (g i)) → ⊥) → joinedBy g need n 1 m i ≡ joinedBy g need n 1 m (i + 1)
-      listed-not f =
-          last-by i false h (is-false (ok (m + 2 ^ i)) (λ t. f (listed-read g m s l j w i k need (omega arith) t)))
+    listed-not : (i : ℕ) → j ≤ i → i < n → ((need ≤ s + g i) × (s + g i < need + min l (g i)) → ⊥)
+        → joinedBy g need n 1 m i ≡ joinedBy g need n 1 m (i + 1)
+    listed-not i k h f =
+        last-by i false h (is-false (ok (m + 2 ^ i)) (λ t. f (listed-read g m s l j w i k need (omega arith) t)))
 
-      pub last-listed : s < need → need - s ≤ g i → g i < need - s + l
-          → joinedBy g need n 1 m i ≡ (m + 2 ^ i) ∷ joinedBy g need n 1 m (i + 1)
-      last-listed a b c = last-by i true h (listed-yes g m s l j w i k need (omega arith) a b c)
-
-      pub last-short : g i < need - s → joinedBy g need n 1 m i ≡ joinedBy g need n 1 m (i + 1)
-      last-short a = listed-not (λ p. not-le-of-lt a (omega (arith, p .0)))
-
-      pub last-idle : s < need → need - s + l ≤ g i → joinedBy g need n 1 m i ≡ joinedBy g need n 1 m (i + 1)
-      last-idle a b = listed-not (λ p. not-le-of-lt (p .1) (omega arith))
+    pub last-band : (i : ℕ) → j ≤ i → i < n → s < need → Last g need n m s l i
+    last-band i k h a = record {
+      below = below-band g m s l j w i k;
+      listed = λ b c. last-by i true h (listed-yes g m s l j w i k need (omega arith) a b c);
+      short = λ b. listed-not i k h (λ p. not-le-of-lt b (omega (arith, p .0)));
+      idle = λ b. listed-not i k h (λ p. not-le-of-lt (p .1) (omega arith));
+    }
 
     -- where the part reaches without one, none is listed
     pub last-none : need ≤ s → joinedBy g need n 1 m j ≡ []

@@ -1,7 +1,7 @@
 -- `lift::lists::put_last` meets its contract. The invariant: of the listed sets, those with a last band below band i are written.
 -- Assumes nothing.
 use mathlib.Core.Path.{_≡_, sym, _∙_, ap, subst}
-use mathlib.Core.List.{List, [], _∷_}
+use mathlib.Core.List.{List, [], _∷_, _++_}
 use mathlib.Core.Logic.{⊎-elim}
 use Prim.Native.Nat.{ℕ, _+_, _-_, _^_, _≤_, _<_}
 use native.Mathlib.Nat.{le-refl}
@@ -9,10 +9,11 @@ use native.Mathlib.Omega.{arith}
 use borrow.Author.Needs.{needs}
 use lib.ListN.{length, set}
 use Rattle.laws.specs.Lists.{front}
-use Rattle.laws.proofs.Fronts.{Writing, none-written, all-written, piece-room, out-length, one-written}
+use Rattle.laws.proofs.Fronts.{Writing, none-written, one-written}
 use Rattle.curve.specs.Levels.{at}
 use Rattle.sets.specs.Gains.{joinedBy}
-use Rattle.sets.proofs.Joining.{below-band, least-small, joined-end, last-listed, last-short, last-idle, last-none}
+use Rattle.sets.proofs.Joining.{Last, last-band, last-none, least-small, joined-end}
+use Rattle.lift.proofs.Turns.{Turn, turn, same-room, ended}
 use Rattle.lift.proofs.Joined.{mask-fits, mask-is}
 use Rattle.lift.proofs.lists.put_last.Statement.{statement}
 use Rattle.lift.proofs.lists.put_last.Tie as tie
@@ -25,69 +26,58 @@ Inv-loop part gains bands need out₀ left bound count₀ i₀ out count i =
 abbrev μ-loop : tie.MeasureT-loop
 μ-loop part gains bands need out₀ left bound count₀ i₀ out count i = bands - i
 
--- the listed sets with a last band from band i on, all of them written so far but for `rest`
+-- the listed sets with a last band from band i on
 abbrev from : tie.Start Inv-loop μ-loop → ℕ → List ℕ
 from s i = joinedBy (at (s .args .gains .now)) (s .args .need) (s .args .bands) 1 (s .args .part .mask) i
 
 abbrev start : tie.At-loop Inv-loop μ-loop → tie.Start Inv-loop μ-loop
 start c = c .before .before .before .before .before
 
-abbrev But : tie.At-loop Inv-loop μ-loop → List ℕ → ℕ → List ℕ → Type 0
-But c rest count out = Writing (from (start c) (start c .args .part .from)) rest (start c .args .out .now) count out
+abbrev word : tie.At-loop Inv-loop μ-loop → ℕ
+word c = start c .args .part .mask + 2 ^ c .loop .i
 
--- the bands are at most 16
+-- all of them are written but for those from the next band on
+abbrev Next : tie.At-loop Inv-loop μ-loop → ℕ → List ℕ → Type 0
+Next c count out = Writing (from (start c) (start c .args .part .from)) (from (start c) (c .loop .i + 1)) (start c .args .out .now) count out
+
 in-word : (c : tie.In-loop Inv-loop μ-loop) → c .before .loop .i < 16
 in-word c = omega (arith, c .loop-test .taken, start (c .before) .pre .1 .0 .bands)
 
--- a set that is listed, and where there is none
+-- what band i is to the set
+last : (c : tie.In-loop Inv-loop μ-loop) → let s = start (c .before) in
+    Last (at (s .args .gains .now)) (s .args .need) (s .args .bands) (s .args .part .mask) (s .args .part .sum) (s .args .part .least) (c .before .loop .i)
+last c =
+    let s = start (c .before) in
+    let p = s .args .part in
+    last-band (at (s .args .gains .now)) (s .args .need) (s .args .bands) (p .mask) (p .sum) (p .least) (p .from) (s .pre .0) (s .pre .1 .0 .bands)
+    (c .before .loop .i) (c .before .loop .inv .0) (c .loop-test .taken) (c .before .before .before .before .if1 .left)
+
+-- the next piece of the list: the set with band i, or nothing
+turned : (c : tie.At-loop Inv-loop μ-loop) (piece : List ℕ) → from (start c) (c .loop .i) ≡ piece ++ from (start c) (c .loop .i + 1)
+    → Turn (from (start c) (start c .args .part .from)) piece (from (start c) (c .loop .i + 1)) (start c .args .out .now) (c .loop .count) (c .loop .out)
+turned c piece =
+    let s = start c in
+    turn (from s (s .args .part .from)) (from s (c .loop .i)) (s .args .out .now) (c .loop .count) (c .loop .out) (s .pre .1 .1) (c .loop .inv .1)
+    piece (from s (c .loop .i + 1))
+
 listed : (c : tie.Then3 Inv-loop μ-loop) → let l = c .before .before .before .before .before in
-    But l ((start l .args .part .mask + 2 ^ l .loop .i) ∷ from (start l) (l .loop .i + 1)) (l .loop .count) (l .loop .out)
+    Turn (from (start l) (start l .args .part .from)) (word l ∷ []) (from (start l) (l .loop .i + 1)) (start l .args .out .now) (l .loop .count) (l .loop .out)
 listed c =
     let b = c .before .before .before .before in
-    let l = b .before .loop in
-    let s = start (b .before) in
-    let p = s .args .part in
-    subst (λ (r : List ℕ). But (b .before) r (l .count) (l .out))
-    (last-listed (at (s .args .gains .now)) (s .args .need) (s .args .bands) (p .mask) (p .sum) (p .least) (p .from) (s .pre .0) (s .pre .1 .0 .bands)
-    (l .i) (l .inv .0) (b .loop-test .taken) (b .before .before .before .before .if1 .left) (omega (arith, c .before .before .if2 .taken)) (c .if3 .taken))
-    (l .inv .1)
+    turned (b .before) (word (b .before) ∷ []) (last b .listed (omega (arith, c .before .before .if2 .taken)) (c .if3 .taken))
 
-idle : (c : tie.Else3 Inv-loop μ-loop) → let l = c .before .before .before .before .before in
-    But l (from (start l) (l .loop .i + 1)) (l .loop .count) (l .loop .out)
-idle c =
-    let b = c .before .before .before .before in
-    let l = b .before .loop in
-    let s = start (b .before) in
-    let p = s .args .part in
-    subst (λ (r : List ℕ). But (b .before) r (l .count) (l .out))
-    (last-idle (at (s .args .gains .now)) (s .args .need) (s .args .bands) (p .mask) (p .sum) (p .least) (p .from) (s .pre .0) (s .pre .1 .0 .bands)
-    (l .i) (l .inv .0) (b .loop-test .taken) (b .before .before .before .before .if1 .left) (c .if3 .left))
-    (l .inv .1)
-
-short : (c : tie.Else2 Inv-loop μ-loop) → let l = c .before .before .before in
-    But l (from (start l) (l .loop .i + 1)) (l .loop .count) (l .loop .out)
-short c =
-    let b = c .before .before in
-    let l = b .before .loop in
-    let s = start (b .before) in
-    let p = s .args .part in
-    subst (λ (r : List ℕ). But (b .before) r (l .count) (l .out))
-    (last-short (at (s .args .gains .now)) (s .args .need) (s .args .bands) (p .mask) (p .sum) (p .least) (p .from) (s .pre .0) (s .pre .1 .0 .bands)
-    (l .i) (l .inv .0) (b .loop-test .taken) (c .if2 .left))
-    (l .inv .1)
-
--- there is a place for it
-room : (c : tie.Then3 Inv-loop μ-loop) → let l = c .before .before .before .before .before in l .loop .count + 1 ≤ length (start l .args .out .now)
-room c =
-    let l = c .before .before .before .before .before in
-    let s = start l in
-    piece-room (from s (s .args .part .from)) ((s .args .part .mask + 2 ^ l .loop .i) ∷ []) (from s (l .loop .i + 1)) (s .args .out .now)
-    (l .loop .count) (l .loop .out) (s .pre .1 .1) (listed c)
+-- the band is passed where the set with it is not listed
+passed : (c : tie.Joined2 Inv-loop μ-loop) → let l = c .before .before .before in
+    c .if2 .count ≡ l .loop .count → c .if2 .out ≡ l .loop .out → from (start l) (l .loop .i) ≡ from (start l) (l .loop .i + 1)
+    → Next l (c .if2 .count) (c .if2 .out)
+passed c n o e =
+    let l = c .before .before .before in
+    subst (λ (m : ℕ). Next l m (c .if2 .out)) (sym n) (subst (Next l (l .loop .count)) (sym o) (turned l [] e .left))
 
 same : (c : tie.At-loop Inv-loop μ-loop) → length (c .loop .out) ≡ length (start c .args .out .now)
 same c =
     let s = start c in
-    out-length (from s (s .args .part .from)) [] (from s (c .loop .i)) (s .args .out .now) (c .loop .count) (c .loop .out) (s .pre .1 .1) (c .loop .inv .1)
+    same-room (from s (s .args .part .from)) (from s (c .loop .i)) (s .args .out .now) (c .loop .count) (c .loop .out) (s .pre .1 .1) (c .loop .inv .1)
 
 returns : tie.Need-returns Inv-loop μ-loop
 returns c =
@@ -131,22 +121,16 @@ shl-out c = omega (arith, in-word (c .before .before .before .before))
 add-out : tie.Need-add-out Inv-loop μ-loop
 add-out c =
     let b = c .before .before .before .before .before in
-    let s = start (b .before) in
-    let p = s .args .part in
-    omega (
-      arith,
-      mask-fits (p .mask) (b .before .loop .i) (in-word b)
-          (below-band (at (s .args .gains .now)) (p .mask) (p .sum) (p .least) (p .from) (s .pre .0) (b .before .loop .i) (b .before .loop .inv .0)),
-    )
+    omega (arith, mask-fits (start (b .before) .args .part .mask) (b .before .loop .i) (in-word b) (last b .below))
 
 mul-out : tie.Need-mul-out Inv-loop μ-loop
-mul-out c = omega (arith, start (c .before .before .before .before .before .before) .good, room (c .before))
+mul-out c = omega (arith, start (c .before .before .before .before .before .before) .good, listed (c .before) .room)
 
 slice-write-out : tie.Need-slice-write-out Inv-loop μ-loop
-slice-write-out c = omega (arith, same (c .before .before .before .before .before .before), room (c .before))
+slice-write-out c = omega (arith, same (c .before .before .before .before .before .before), listed (c .before) .room)
 
 add-count : tie.Need-add-count Inv-loop μ-loop
-add-count c = omega (arith, start (c .before .before .before .before .before .before) .good, room (c .before))
+add-count c = omega (arith, start (c .before .before .before .before .before .before) .good, listed (c .before) .room)
 
 add-i : tie.Need-add-i Inv-loop μ-loop
 add-i c = omega arith
@@ -157,24 +141,19 @@ loop-less c = omega arith
 loop-again : tie.Need-loop-again Inv-loop μ-loop
 loop-again c =
     let b = c .before .before in
-    let l = b .before .loop in
-    let s = start (b .before) in
-    let rest = from s (l .i + 1) in (
+    let l = b .before in
+    let s = start l in (
       omega arith,
       ⊎-elim
           (λ w.
-          subst (λ (n : ℕ). But (b .before) rest n (c .if2 .out)) (sym (w .5))
-          (subst (But (b .before) rest (l .count + 1)) (ap (set (l .out) (l .count)) (sym (mask-is (s .args .part .mask) (l .i) (in-word b))) ∙ sym (w .4))
-          (one-written (from s (s .args .part .from)) rest (s .args .out .now) (s .args .part .mask + 2 ^ l .i) (l .count) (l .out) (s .pre .1 .1)
-          (listed (record { before = record { before = record { before = c .before; if2 = w .0 }; if32 = w .1 }; if3 = w .2 })))))
+          subst (λ (n : ℕ). Next l n (c .if2 .out)) (sym (w .5))
+          (subst (Next l (l .loop .count + 1))
+          (ap (set (l .loop .out) (l .loop .count)) (sym (mask-is (s .args .part .mask) (l .loop .i) (in-word b))) ∙ sym (w .4))
+          (one-written (from s (s .args .part .from)) (from s (l .loop .i + 1)) (s .args .out .now) (word l) (l .loop .count) (l .loop .out) (s .pre .1 .1)
+          (listed (record { before = record { before = record { before = c .before; if2 = w .0 }; if32 = w .1 }; if3 = w .2 }) .left))))
           (⊎-elim
-          (λ w.
-          subst (λ (n : ℕ). But (b .before) rest n (c .if2 .out)) (sym (w .4))
-          (subst (But (b .before) rest (l .count)) (sym (w .3))
-          (idle (record { before = record { before = record { before = c .before; if2 = w .0 }; if32 = w .1 }; if3 = w .2 }))))
-          (λ w.
-          subst (λ (n : ℕ). But (b .before) rest n (c .if2 .out)) (sym (w .2))
-          (subst (But (b .before) rest (l .count)) (sym (w .1)) (short (record { before = c .before; if2 = w .0 })))))
+          (λ w. passed c (w .4) (w .3) (last b .idle (w .2 .left)))
+          (λ w. passed c (w .2) (w .1) (last b .short (w .0 .left))))
           (c .if2 .came),
     )
 
@@ -185,9 +164,8 @@ returns-2 : tie.Need-returns-2 Inv-loop μ-loop
 returns-2 c =
     let l = c .before .loop in
     let s = start (c .before) in
-    all-written (from s (s .args .part .from)) (s .args .out .now) (l .count) (l .out)
-    (subst (λ (r : List ℕ). But (c .before) r (l .count) (l .out))
-    (joined-end (at (s .args .gains .now)) (s .args .need) (s .args .bands) 0 (s .args .part .mask) (l .i) (c .loop-test .left)) (l .inv .1))
+    ended (from s (s .args .part .from)) (from s (l .i)) (s .args .out .now) (l .count) (l .out) (s .pre .1 .1) (l .inv .1)
+    (joined-end (at (s .args .gains .now)) (s .args .need) (s .args .bands) 0 (s .args .part .mask) (l .i) (c .loop-test .left))
 
 pub put-last-spec : {M : Type 1} → statement M
 put-last-spec =
