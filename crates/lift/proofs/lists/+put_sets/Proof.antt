@@ -2,7 +2,7 @@
 -- is below band i are written; the sets that start with band i are the piece that a call with one band less to come writes to
 -- the tail. Assumes nothing.
 use mathlib.Core.Path.{_≡_, sym, _∙_, ap, subst}
-use mathlib.Core.List.{List, [], _++_}
+use mathlib.Core.List.{List}
 use Prim.Native.Nat.{ℕ, _+_, _-_, _≤_, _<_}
 use native.Mathlib.Nat.{le-refl}
 use native.Mathlib.Omega.{arith}
@@ -11,10 +11,11 @@ use borrow.Fn.Kinds.{In}
 use borrow.Fn.PlainCycle.{Measures, is, falls, and}
 use lib.ListN.{length}
 use Rattle.laws.specs.Lists.{front}
-use Rattle.laws.proofs.Fronts.{Writing, none-written, all-written, piece-room, out-length, lent-within, lent-room, piece-written}
+use Rattle.laws.proofs.Fronts.{Writing, none-written}
 use Rattle.curve.specs.Levels.{at}
 use Rattle.sets.specs.Gains.{joinedBy}
 use Rattle.sets.proofs.Joining.{below-band, sum-small, joined-end}
+use Rattle.lift.proofs.Turns.{Turn, turn, same-room, ended}
 use Rattle.lift.proofs.Joined.{longer-part, longer-piece}
 use Rattle.lift.proofs.lists.put_sets.Reads as put-sets
 use Rattle.lift.proofs.lists.put_sets.Kinds as put-sets-kinds
@@ -55,10 +56,13 @@ module _ (t : ℕ) where
   abbrev At-loop : Type 0
   At-loop = lts.At-loop (told t) (at-level t) put-sets.Post Inv-loop μ-loop
 
+  abbrev In-loop : Type 0
+  In-loop = lts.In-loop (told t) (at-level t) put-sets.Post Inv-loop μ-loop
+
   abbrev After-joined : Type 0
   After-joined = lts.After-joined (told t) (at-level t) put-sets.Post Inv-loop μ-loop
 
-  -- the listed sets with the next band from band i on
+  -- the listed sets of the part and n bands more, from band i on
   abbrev sets : Start → ℕ → ℕ → List ℕ
   sets s n i = joinedBy (at (s .args .gains .now)) (s .args .need) (s .args .bands) n (s .args .part .mask) i
 
@@ -68,47 +72,31 @@ module _ (t : ℕ) where
   abbrev start : At-loop → Start
   start c = c .before .before .before
 
-  -- all of them are written but for `rest`
-  abbrev But : At-loop → List ℕ → ℕ → List ℕ → Type 0
-  But c rest count out = Writing (from (start c) (start c .args .part .from)) rest (start c .args .out .now) count out
-
   alone : (c : lts.Then1 (told t) (at-level t) put-sets.Post Inv-loop μ-loop) → c .before .before .args .more + 1 ≡ 1
   alone c = omega (arith, c .if1 .taken)
 
-  in-word : (c : lts.In-loop (told t) (at-level t) put-sets.Post Inv-loop μ-loop) → c .before .loop .i < 16
+  in-word : (c : In-loop) → c .before .loop .i < 16
   in-word c = omega (arith, c .loop-test .taken, start (c .before) .pre .1 .1 .1 .0 .bands)
 
-  some : (c : lts.In-loop (told t) (at-level t) put-sets.Post Inv-loop μ-loop) → 1 ≤ start (c .before) .args .more
+  some : (c : In-loop) → 1 ≤ start (c .before) .args .more
   some c = omega (arith, c .before .before .if1 .left)
 
-  -- the sets that start with band i
+  -- the sets that start with band i are the next piece
   abbrev piece : After-joined → List ℕ
   piece c =
       let s = start (c .before .before .before) in
       joinedBy (at (s .args .gains .now)) (s .args .need) (s .args .bands) (s .args .more - 1 + 1) (c .joined .result .mask) (c .joined .result .from)
 
-  next : (c : After-joined) → let l = c .before .before .before in But l (piece c ++ from (start l) (l .loop .i + 1)) (l .loop .count) (l .loop .out)
-  next c =
+  turned : (c : After-joined) → let l = c .before .before .before in
+      Turn (from (start l) (start l .args .part .from)) (piece c) (from (start l) (l .loop .i + 1)) (start l .args .out .now) (l .loop .count) (l .loop .out)
+  turned c =
       let b = c .before .before in
-      let l = b .before in
-      let s = start l in
-      subst (λ (r : List ℕ). But l r (l .loop .count) (l .loop .out))
-      (longer-piece (at (s .args .gains .now)) (s .args .part .mask) (l .loop .i) (c .joined .result .mask) (c .joined .result .from)
-      (c .joined .ensures .0 .0) (c .joined .ensures .1 .1) (s .args .need) (s .args .bands) (s .args .more) (some b) (b .loop-test .taken))
-      (l .loop .inv .1)
-
-  -- and there is room for them
-  room : (c : After-joined) → let l = c .before .before .before in l .loop .count + length (piece c) ≤ length (start l .args .out .now)
-  room c =
-      let l = c .before .before .before in
-      let s = start l in
-      piece-room (from s (s .args .part .from)) (piece c) (from s (l .loop .i + 1)) (s .args .out .now) (l .loop .count) (l .loop .out) (s .pre .1 .1 .1 .1) (next c)
-
-  within : (c : After-joined) → let l = c .before .before .before in l .loop .count ≤ length (l .loop .out)
-  within c =
-      let l = c .before .before .before in
-      let s = start l in
-      lent-within (from s (s .args .part .from)) (piece c) (from s (l .loop .i + 1)) (s .args .out .now) (l .loop .count) (l .loop .out) (s .pre .1 .1 .1 .1) (next c)
+      let l = b .before .loop in
+      let s = start (b .before) in
+      let r = c .joined in
+      turn (from s (s .args .part .from)) (from s (l .i)) (s .args .out .now) (l .count) (l .out) (s .pre .1 .1 .1 .1) (l .inv .1) (piece c) (from s (l .i + 1))
+      (longer-piece (at (s .args .gains .now)) (s .args .part .mask) (l .i) (r .result .mask) (r .result .from) (r .ensures .0 .0) (r .ensures .1 .1)
+      (s .args .need) (s .args .bands) (s .args .more) (some b) (b .loop-test .taken))
 
   put-last-requires : lts.Need-put-last-requires (told t) (at-level t) put-sets.Post Inv-loop μ-loop
   put-last-requires c κs =
@@ -142,14 +130,15 @@ module _ (t : ℕ) where
   joined-requires : lts.Need-joined-requires (told t) (at-level t) put-sets.Post Inv-loop μ-loop
   joined-requires c κs =
       let b = c .before in
+      let l = b .before .loop in
       let s = start (b .before) in
       let a = s .args .part in
       let p = s .pre .1 .1 in
       let g = at (s .args .gains .now) in (
-        (in-word b, p .1 .0 .small (b .before .loop .i)),
+        (in-word b, p .1 .0 .small (l .i)),
         (
-          below-band g (a .mask) (a .sum) (a .least) (a .from) (p .0) (b .before .loop .i) (b .before .loop .inv .0),
-          sum-small g (a .mask) (a .sum) (a .least) (a .from) (p .0) (b .before .loop .i) (b .before .loop .inv .0) (p .1 .0 .small),
+          below-band g (a .mask) (a .sum) (a .least) (a .from) (p .0) (l .i) (l .inv .0),
+          sum-small g (a .mask) (a .sum) (a .least) (a .from) (p .0) (l .i) (l .inv .0) (p .1 .0 .small),
         ),
       )
 
@@ -157,13 +146,13 @@ module _ (t : ℕ) where
   sub-put-sets c = some (c .before .before)
 
   mul-put-sets : lts.Need-mul-put-sets (told t) (at-level t) put-sets.Post Inv-loop μ-loop
-  mul-put-sets c = omega (arith, start (c .before .before .before) .good, room c)
+  mul-put-sets c = omega (arith, start (c .before .before .before) .good, turned c .room)
 
   sub-put-sets-2 : lts.Need-sub-put-sets-2 (told t) (at-level t) put-sets.Post Inv-loop μ-loop
-  sub-put-sets-2 c = within c
+  sub-put-sets-2 c = turned c .within
 
   part-put-sets-start : lts.Need-part-put-sets-start (told t) (at-level t) put-sets.Post Inv-loop μ-loop
-  part-put-sets-start c = within c
+  part-put-sets-start c = turned c .within
 
   part-put-sets-end : lts.Need-part-put-sets-end (told t) (at-level t) put-sets.Post Inv-loop μ-loop
   part-put-sets-end c = search needs
@@ -171,29 +160,27 @@ module _ (t : ℕ) where
   put-sets-requires : lts.Need-put-sets-requires (told t) (at-level t) put-sets.Post Inv-loop μ-loop
   put-sets-requires c κs =
       let d = c .before in
-      let l = d .before .before .before in
-      let s = start l in
+      let b = d .before .before in
+      let l = b .before .loop in
+      let s = start (b .before) in
       let a = s .args .part in
-      let p = s .pre .1 .1 in
       let r = d .joined in (
-        omega (arith, s .pre .0, some (d .before .before)),
+        omega (arith, s .pre .0, some b),
         (
           omega (arith, s .pre .1 .0),
           (
-            longer-part (at (s .args .gains .now)) (a .mask) (l .loop .i) (r .result .mask) (r .result .from) (r .ensures .0 .0) (r .ensures .1 .1)
-                (a .sum) (a .least) (a .from) (r .result .sum) (r .result .least) (p .0) (l .loop .inv .0) (in-word (d .before .before)) (r .ensures .0 .1) (r .ensures .1 .0),
-            (
-              p .1 .0,
-              lent-room (from s (a .from)) (piece d) (from s (l .loop .i + 1)) (s .args .out .now) (l .loop .count) (l .loop .out) (p .1 .1) (next d),
-            ),
+            longer-part (at (s .args .gains .now)) (a .mask) (l .i) (r .result .mask) (r .result .from) (r .ensures .0 .0) (r .ensures .1 .1)
+                (a .sum) (a .least) (a .from) (r .result .sum) (r .result .least) (s .pre .1 .1 .0) (l .inv .0) (in-word b) (r .ensures .0 .1) (r .ensures .1 .0),
+            (s .pre .1 .1 .1 .0, turned d .lent),
           ),
         ),
       )
 
   add-count : lts.Need-add-count (told t) (at-level t) put-sets.Post Inv-loop μ-loop
   add-count c =
-      let b = c .before .before in
-      omega (arith, start (b .before .before .before .before .before) .good, room (b .before .before), b .put-sets .ensures .0)
+      let p = c .before .before in
+      let d = p .before .before in
+      omega (arith, start (d .before .before .before) .good, turned d .room, p .put-sets .ensures .0)
 
   add-i : lts.Need-add-i (told t) (at-level t) put-sets.Post Inv-loop μ-loop
   add-i c = omega arith
@@ -203,29 +190,24 @@ module _ (t : ℕ) where
 
   loop-again : lts.Need-loop-again (told t) (at-level t) put-sets.Post Inv-loop μ-loop
   loop-again c =
-      let b = c .before .before in
-      let d = b .before .before in
-      let l = d .before .before .before in
-      let s = start l in (
-        omega (arith, l .loop .inv .0),
-        piece-written (from s (s .args .part .from)) (piece d) (from s (l .loop .i + 1)) (s .args .out .now) (l .loop .count) (l .loop .out)
-            (s .pre .1 .1 .1 .1) (next d) (b .put-sets .result) _ (b .put-sets .ensures .0) (b .put-sets .ensures .1),
+      let p = c .before .before in
+      let d = p .before .before in (
+        omega (arith, d .before .before .before .loop .inv .0),
+        turned d .written (p .put-sets .result) _ (p .put-sets .ensures .0) (p .put-sets .ensures .1),
       )
 
   same-length-2 : lts.Need-same-length-2 (told t) (at-level t) put-sets.Post Inv-loop μ-loop
   same-length-2 c =
-      let l = c .before in
-      let s = start l in
-      out-length (from s (s .args .part .from)) [] (from s (l .loop .i)) (s .args .out .now) (l .loop .count) (l .loop .out) (s .pre .1 .1 .1 .1) (l .loop .inv .1)
+      let l = c .before .loop in
+      let s = start (c .before) in
+      same-room (from s (s .args .part .from)) (from s (l .i)) (s .args .out .now) (l .count) (l .out) (s .pre .1 .1 .1 .1) (l .inv .1)
 
   returns-2 : lts.Need-returns-2 (told t) (at-level t) put-sets.Post Inv-loop μ-loop
   returns-2 c =
-      let l = c .before in
-      let s = start l in
-      all-written (from s (s .args .part .from)) (s .args .out .now) (l .loop .count) (l .loop .out)
-      (subst (λ (r : List ℕ). But l r (l .loop .count) (l .loop .out))
-      (joined-end (at (s .args .gains .now)) (s .args .need) (s .args .bands) (s .args .more) (s .args .part .mask) (l .loop .i) (c .loop-test .left))
-      (l .loop .inv .1))
+      let l = c .before .loop in
+      let s = start (c .before) in
+      ended (from s (s .args .part .from)) (from s (l .i)) (s .args .out .now) (l .count) (l .out) (s .pre .1 .1 .1 .1) (l .inv .1)
+      (joined-end (at (s .args .gains .now)) (s .args .need) (s .args .bands) (s .args .more) (s .args .part .mask) (l .i) (c .loop-test .left))
 
 pub +put-sets-spec : {M : Type 1} → statement M
 +put-sets-spec = close μ-put-sets λ t. lts.spec (told t) (at-level t) put-sets.Post Inv-loop μ-loop

@@ -1,15 +1,15 @@
 -- `lift::lists::fill` meets its contract. The invariant: the listed sets of at most `more` bands are written; those of one band
 -- more are the next piece of the list. Assumes nothing.
-use mathlib.Core.List.{List, [], _++_}
+use mathlib.Core.List.{List}
 use mathlib.Core.Path.{subst}
-use Prim.Native.Nat.{ℕ, _+_, _-_, _≤_}
+use Prim.Native.Nat.{ℕ, _+_, _-_}
 use native.Mathlib.Omega.{arith}
 use borrow.Author.Needs.{needs}
-use lib.ListN.{length}
-use Rattle.laws.proofs.Fronts.{Writing, none-written, all-written, piece-room, out-length, lent-within, lent-room, piece-written}
+use Rattle.laws.proofs.Fronts.{Writing, none-written}
 use Rattle.curve.specs.Levels.{at}
 use Rattle.sets.specs.Gains.{byGains, joinedBy}
 use Rattle.sets.proofs.Joining.{no-part, larger, larger-all, larger-step, larger-end}
+use Rattle.lift.proofs.Turns.{Turn, turn, same-room, ended}
 use Rattle.lift.proofs.lists.fill.Statement.{statement}
 use Rattle.lift.proofs.lists.fill.Tie as tie
 
@@ -30,30 +30,17 @@ whole s = byGains (at (s .args .gains .now)) (s .args .need) (s .args .bands)
 abbrev after : tie.Start Inv-loop μ-loop → ℕ → List ℕ
 after s more = larger (at (s .args .gains .now)) (s .args .need) (s .args .bands) more
 
-abbrev But : tie.At-loop Inv-loop μ-loop → List ℕ → Type 0
-But c rest = Writing (whole (start c)) rest (start c .args .out .now) (c .loop .count) (c .loop .out)
-
--- those of one band more come next, and there is room for them
+-- those of one band more are the next piece
 abbrev piece : tie.At-loop Inv-loop μ-loop → List ℕ
 piece c = let s = start c in joinedBy (at (s .args .gains .now)) (s .args .need) (s .args .bands) (c .loop .more + 1) 0 0
 
-next : (c : tie.In-loop Inv-loop μ-loop) → let l = c .before in But l (piece l ++ after (start l) (l .loop .more + 1))
-next c =
-    let l = c .before in
-    let s = start l in
-    subst (But l) (larger-step (at (s .args .gains .now)) (s .args .need) (s .args .bands) (l .loop .more) (omega arith)) (l .loop .inv)
-
-room : (c : tie.In-loop Inv-loop μ-loop) → c .before .loop .count + length (piece (c .before)) ≤ length (start (c .before) .args .out .now)
-room c =
-    let l = c .before in
-    let s = start l in
-    piece-room (whole s) (piece l) (after s (l .loop .more + 1)) (s .args .out .now) (l .loop .count) (l .loop .out) (s .pre .1) (next c)
-
-within : (c : tie.In-loop Inv-loop μ-loop) → c .before .loop .count ≤ length (c .before .loop .out)
-within c =
-    let l = c .before in
-    let s = start l in
-    lent-within (whole s) (piece l) (after s (l .loop .more + 1)) (s .args .out .now) (l .loop .count) (l .loop .out) (s .pre .1) (next c)
+turned : (c : tie.In-loop Inv-loop μ-loop) → let l = c .before in
+    Turn (whole (start l)) (piece l) (after (start l) (l .loop .more + 1)) (start l .args .out .now) (l .loop .count) (l .loop .out)
+turned c =
+    let l = c .before .loop in
+    let s = start (c .before) in
+    turn (whole s) (after s (l .more)) (s .args .out .now) (l .count) (l .out) (s .pre .1) (l .inv) (piece (c .before)) (after s (l .more + 1))
+    (larger-step (at (s .args .gains .now)) (s .args .need) (s .args .bands) (l .more) (omega arith))
 
 loop-holds : tie.Need-loop-holds Inv-loop μ-loop
 loop-holds c =
@@ -62,37 +49,27 @@ loop-holds c =
     (larger-all (at (s .args .gains .now)) (s .args .need) (s .args .bands)) (none-written (whole s) (s .args .out .now))
 
 mul-put-sets : tie.Need-mul-put-sets Inv-loop μ-loop
-mul-put-sets c = omega (arith, start (c .before) .good, room c)
+mul-put-sets c = omega (arith, start (c .before) .good, turned c .room)
 
 sub-put-sets : tie.Need-sub-put-sets Inv-loop μ-loop
-sub-put-sets c = within c
+sub-put-sets c = turned c .within
 
 part-put-sets-start : tie.Need-part-put-sets-start Inv-loop μ-loop
-part-put-sets-start c = within c
+part-put-sets-start c = turned c .within
 
 part-put-sets-end : tie.Need-part-put-sets-end Inv-loop μ-loop
 part-put-sets-end c = search needs
 
 put-sets-requires : tie.Need-put-sets-requires Inv-loop μ-loop
 put-sets-requires c κs =
-    let b = c .before in
-    let l = b .before in
-    let s = start l in (
-      omega arith,
-      (
-        no-part (at (s .args .gains .now)),
-        (
-          s .pre .0,
-          lent-room (whole s) (piece l) (after s (l .loop .more + 1)) (s .args .out .now) (l .loop .count) (l .loop .out) (s .pre .1) (next b),
-        ),
-      ),
-    )
+    let s = start (c .before .before) in
+    (omega arith, (no-part (at (s .args .gains .now)), (s .pre .0, turned (c .before) .lent)))
 
 add-count : tie.Need-add-count Inv-loop μ-loop
 add-count c =
     let p = c .before .before in
     let b = p .before .before in
-    omega (arith, start (b .before) .good, room b, p .put-sets .ensures .0)
+    omega (arith, start (b .before) .good, turned b .room, p .put-sets .ensures .0)
 
 add-more : tie.Need-add-more Inv-loop μ-loop
 add-more c = omega arith
@@ -101,26 +78,20 @@ loop-less : tie.Need-loop-less Inv-loop μ-loop
 loop-less c = omega arith
 
 loop-again : tie.Need-loop-again Inv-loop μ-loop
-loop-again c =
-    let p = c .before .before in
-    let b = p .before .before in
-    let l = b .before in
-    let s = start l in
-    piece-written (whole s) (piece l) (after s (l .loop .more + 1)) (s .args .out .now) (l .loop .count) (l .loop .out) (s .pre .1) (next b)
-    (p .put-sets .result) _ (p .put-sets .ensures .0) (p .put-sets .ensures .1)
+loop-again c = let p = c .before .before in turned (p .before .before) .written (p .put-sets .result) _ (p .put-sets .ensures .0) (p .put-sets .ensures .1)
 
 same-length : tie.Need-same-length Inv-loop μ-loop
 same-length c =
-    let l = c .before in
-    let s = start l in
-    out-length (whole s) [] (after s (l .loop .more)) (s .args .out .now) (l .loop .count) (l .loop .out) (s .pre .1) (l .loop .inv)
+    let l = c .before .loop in
+    let s = start (c .before) in
+    same-room (whole s) (after s (l .more)) (s .args .out .now) (l .count) (l .out) (s .pre .1) (l .inv)
 
 returns : tie.Need-returns Inv-loop μ-loop
 returns c =
-    let l = c .before in
-    let s = start l in
-    all-written (whole s) (s .args .out .now) (l .loop .count) (l .loop .out)
-    (subst (But l) (larger-end (at (s .args .gains .now)) (s .args .need) (s .args .bands) (l .loop .more) (c .loop-test .left)) (l .loop .inv))
+    let l = c .before .loop in
+    let s = start (c .before) in
+    ended (whole s) (after s (l .more)) (s .args .out .now) (l .count) (l .out) (s .pre .1) (l .inv)
+    (larger-end (at (s .args .gains .now)) (s .args .need) (s .args .bands) (l .more) (c .loop-test .left))
 
 pub fill-spec : {M : Type 1} → statement M
 fill-spec =
