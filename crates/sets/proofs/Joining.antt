@@ -76,17 +76,7 @@ module _ (g : ℕ → ℕ) where
   pub no-part : PartOf g 0 0 10000 0
   no-part = record { lower = omega arith; summed = sym (no-gains g); smallest = least-none 16 }
 
-  module _ (m s l j : ℕ) (w : PartOf g m s l j) (i : ℕ) (k : j ≤ i) where
-    pub below-band : m < 2 ^ i
-    below-band = omega (arith, w .lower, pow-mono k)
-
-    pub part-joined : i < 16 → PartOf g (m + 2 ^ i) (s + g i) (min l (g i)) (i + 1)
-    part-joined h = record {
-      lower = subst (λ (p : ℕ). m + 2 ^ i < 2 ^ p) (sym (add-one i)) (omega (arith, below-band));
-      summed = ap (λ (t : ℕ). t + g i) (w .summed) ∙ sym (gains-joined m i below-band h);
-      smallest = ap (λ (t : ℕ). min t (g i)) (w .smallest) ∙ sym (least-more m i 16 below-band h);
-    }
-
+  module _ (m s l j : ℕ) (w : PartOf g m s l j) where
     -- how large the sum and the least of gains are
     pub sum-small : ((p : ℕ) → g p < 10000) → s < 200000
     unfolding gainsOf
@@ -99,32 +89,43 @@ module _ (g : ℕ → ℕ) where
     pub least-small : l ≤ 10000
     least-small = omega (arith, w .smallest, least-most m 16)
 
-    -- ---- the last band: with it the gains make up what is needed, without it or without the least of the others they do not
-    module _ (need : ℕ) (h : i < 16) where
-      abbrev reach : Bool
-      reach = leb need (gainsOf g (m + 2 ^ i) 16)
+    module _ (i : ℕ) (k : j ≤ i) where
+      pub below-band : m < 2 ^ i
+      below-band = omega (arith, w .lower, pow-mono k)
 
-      abbrev near : Bool
-      near = ltb (gainsOf g (m + 2 ^ i) 16) (need + leastOf g (m + 2 ^ i) 16)
+      pub part-joined : i < 16 → PartOf g (m + 2 ^ i) (s + g i) (min l (g i)) (i + 1)
+      part-joined h = record {
+        lower = subst (λ (p : ℕ). m + 2 ^ i < 2 ^ p) (sym (add-one i)) (omega (arith, below-band));
+        summed = ap (λ (t : ℕ). t + g i) (w .summed) ∙ sym (gains-joined m i below-band h);
+        smallest = ap (λ (t : ℕ). min t (g i)) (w .smallest) ∙ sym (least-more m i 16 below-band h);
+      }
 
-      sum-is : s + g i ≡ gainsOf g (m + 2 ^ i) 16
-      sum-is = part-joined h .summed
+      -- ---- the last band: with it the gains make up what is needed, without it or without the least of the others they do not
+      module _ (need : ℕ) (h : i < 16) where
+        abbrev reach : Bool
+        reach = leb need (gainsOf g (m + 2 ^ i) 16)
 
-      least-is : min l (g i) ≡ leastOf g (m + 2 ^ i) 16
-      least-is = part-joined h .smallest
+        abbrev near : Bool
+        near = ltb (gainsOf g (m + 2 ^ i) 16) (need + leastOf g (m + 2 ^ i) 16)
 
-      listed-yes : s < need → need - s ≤ g i → g i < need - s + l → listedBy g need (m + 2 ^ i) ≡ true
-      unfolding listedBy
-      listed-yes a b c = is-true (listedBy g need (m + 2 ^ i))
-          (and-both reach near (le→leb need (gainsOf g (m + 2 ^ i) 16) (omega (arith, sum-is)))
-          (lt→ltb (gainsOf g (m + 2 ^ i) 16) (need + leastOf g (m + 2 ^ i) 16) (omega (arith, sum-is, least-is))))
+        sum-is : s + g i ≡ gainsOf g (m + 2 ^ i) 16
+        sum-is = part-joined h .summed
 
-      listed-read : T (listedBy g need (m + 2 ^ i)) → (need ≤ s + g i) × (s + g i < need + min l (g i))
-      unfolding listedBy
-      listed-read t = (
-        omega (arith, sum-is, leb→le need (gainsOf g (m + 2 ^ i) 16) (and-left reach near t)),
-        omega (arith, sum-is, least-is, ltb→lt (gainsOf g (m + 2 ^ i) 16) (need + leastOf g (m + 2 ^ i) 16) (and-right reach near t)),
-      )
+        least-is : min l (g i) ≡ leastOf g (m + 2 ^ i) 16
+        least-is = part-joined h .smallest
+
+        listed-yes : s < need → need - s ≤ g i → g i < need - s + l → listedBy g need (m + 2 ^ i) ≡ true
+        unfolding listedBy
+        listed-yes a b c = is-true (listedBy g need (m + 2 ^ i))
+            (and-both reach near (le→leb need (gainsOf g (m + 2 ^ i) 16) (omega (arith, sum-is)))
+            (lt→ltb (gainsOf g (m + 2 ^ i) 16) (need + leastOf g (m + 2 ^ i) 16) (omega (arith, sum-is, least-is))))
+
+        listed-read : T (listedBy g need (m + 2 ^ i)) → (need ≤ s + g i) × (s + g i < need + min l (g i))
+        unfolding listedBy
+        listed-read t = (
+          omega (arith, sum-is, leb→le need (gainsOf g (m + 2 ^ i) 16) (and-left reach near t)),
+          omega (arith, sum-is, least-is, ltb→lt (gainsOf g (m + 2 ^ i) 16) (need + leastOf g (m + 2 ^ i) 16) (and-right reach near t)),
+        )
 
 -- a set of bands below band i, and band i as its last: it is listed, falls short, or one of the others is idle
 pub record Last (g : ℕ → ℕ) (need n m s l i : ℕ) : Type 0 where

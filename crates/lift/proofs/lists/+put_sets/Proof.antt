@@ -138,7 +138,7 @@ module _ (t : ℕ) where
         (in-word b, p .1 .0 .small (l .i)),
         (
           below-band g (a .mask) (a .sum) (a .least) (a .from) (p .0) (l .i) (l .inv .0),
-          sum-small g (a .mask) (a .sum) (a .least) (a .from) (p .0) (l .i) (l .inv .0) (p .1 .0 .small),
+          sum-small g (a .mask) (a .sum) (a .least) (a .from) (p .0) (p .1 .0 .small),
         ),
       )
 

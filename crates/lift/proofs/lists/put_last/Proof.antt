@@ -93,7 +93,7 @@ add-bound : tie.Need-add-bound Inv-loop μ-loop
 add-bound c =
     let s = c .before .before .before .before in
     let p = s .args .part in
-    omega (arith, s .pre .1 .0 .needed, least-small (at (s .args .gains .now)) (p .mask) (p .sum) (p .least) (p .from) (s .pre .0) (p .from) (le-refl (p .from)))
+    omega (arith, s .pre .1 .0 .needed, least-small (at (s .args .gains .now)) (p .mask) (p .sum) (p .least) (p .from) (s .pre .0))
 
 loop-holds : tie.Need-loop-holds Inv-loop μ-loop
 loop-holds c =
