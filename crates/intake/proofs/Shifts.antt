@@ -2,19 +2,20 @@
 use mathlib.Core.Path.{_≡_, _∙_, ap}
 use mathlib.Core.Bool.{Bool, true, false}
 use Prim.Native.Nat.{ℕ, _+_, _*_, _-_, _/_, _%_, _^_, _≤_, _<_}
-use native.Mathlib.Nat.{mul-le-mul-right, one-mul, mul-comm}
+use native.Mathlib.Nat.{mul-le-mul-right, mul-comm}
 use native.Mathlib.Omega.{arith}
 use lib.IntN.{ℤ, pos, negℤ, _-ℤ_}
-use lib.Pow.{pow-add, pow-pos, pow-mono, shl-exact}
+use lib.Pow.{pow-add, pow-pos, pow-mono}
 use Rattle.laws.proofs.Ints.{ints, minus, opposite}
 use Rattle.intake.specs.Nearest.{heldOf, sizeOf, nearestTo}
 use Rattle.intake.proofs.Nearest.{sized, size-small}
+use Rattle.laws.proofs.Bits.{one-bit}
 
 pub product : (scale digits : ℕ) → scale ≤ 100 → digits < 16777216 → scale * digits ≤ 1677721600
 product scale digits h g = omega (arith, mul-le-mul-right digits h)
 
 pub one-shifted : (p : ℕ) → p ≤ 48 → 1 * 2 ^ p % 18446744073709551616 ≡ 2 ^ p
-one-shifted p h = shl-exact {a = 1} 1 p 64 (omega arith) (omega arith) ∙ one-mul (2 ^ p)
+one-shifted p h = one-bit 64 p (omega arith)
 
 pub power : (p : ℕ) → 16 ≤ p → p ≤ 31 → (65536 ≤ 2 ^ p) × (2 ^ p ≤ 2147483648)
 power p h g = (pow-mono {i = 16} {j = p} h, pow-mono {i = p} {j = 31} g)

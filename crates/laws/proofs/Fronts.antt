@@ -71,38 +71,45 @@ module _ {A : Type 0} where
   pub none-written : (whole l : List A) → Writing whole whole l 0 l
   none-written whole l = record { done = []; parted = refl; counted = refl; written = refl }
 
-  pub all-written : (whole l : List A) (count : ℕ) (out : List A) → Writing whole [] l count out → (count ≡ length whole) × (out ≡ front whole l)
-  all-written whole l count out w =
-      let e : w .done ≡ whole = sym (append-nil (w .done)) ∙ w .parted in
-      (w .counted ∙ ap length e, w .written ∙ ap (λ (t : List A). front t l) e)
-
-  module _ (whole piece rest l : List A) (count : ℕ) (out : List A) (room : length whole ≤ length l) (w : Writing whole (piece ++ rest) l count out) where
-    -- there is room for the piece
-    pub piece-room : count + length piece ≤ length l
-    piece-room =
-        omega (arith, w .counted, ap length (w .parted), length-append (w .done) (piece ++ rest), length-append piece rest)
-
-    pub out-length : length out ≡ length l
-    out-length = ap length (w .written) ∙ front-length (w .done) l (omega (arith, w .counted, piece-room))
-
-    pub lent-within : count ≤ length out
-    lent-within = omega (arith, out-length, piece-room)
-
-    pub lent-room : length piece ≤ length (midOf count (length out - count) out)
-    lent-room = omega (arith, tail-length (w .done) l count (w .written) (w .counted) (omega (arith, w .counted, piece-room)), piece-room)
-
-    parted-next : (w .done ++ piece) ++ rest ≡ whole
-    parted-next = append-assoc (w .done) piece rest ∙ w .parted
-
-    -- once it is written to the tail
-    pub piece-written : (n : ℕ) (ys : List A) → n ≡ length piece → ys ≡ front piece (midOf count (length out - count) out)
+  -- one turn: what is still to come is a piece and the rest, the piece has room, and once it is written to the tail that is lent
+  -- the rest is still to come
+  pub record Turn (whole piece rest l : List A) (count : ℕ) (out : List A) : Type 0 where
+    pub left : Writing whole (piece ++ rest) l count out
+    pub room : count + length piece ≤ length l
+    pub within : count ≤ length out
+    pub lent : length piece ≤ length (midOf count (length out - count) out)
+    pub written : (n : ℕ) (ys : List A) → n ≡ length piece → ys ≡ front piece (midOf count (length out - count) out)
         → Writing whole rest l (count + n) (putMid count (length out - count) out ys)
-    piece-written n ys e y = record {
-      done = w .done ++ piece;
-      parted = parted-next;
-      counted = omega (arith, w .counted, length-append (w .done) piece);
-      written = tail-home (w .done) l count (w .written) (w .counted) (omega (arith, w .counted, piece-room)) piece y;
-    }
+
+  module _ (whole now l : List A) (count : ℕ) (out : List A) (room : length whole ≤ length l) (w : Writing whole now l count out) where
+    done-room : length (w .done) + length now ≤ length l
+    done-room = omega (arith, ap length (w .parted), length-append (w .done) now)
+
+    pub same-room : length out ≡ length l
+    same-room = ap length (w .written) ∙ front-length (w .done) l (omega (arith, done-room))
+
+    pub turn : (piece rest : List A) → now ≡ piece ++ rest → Turn whole piece rest l count out
+    turn piece rest e =
+        let fits : length (w .done) ≤ length l = omega (arith, done-room) in
+        let more : count + length piece ≤ length l = omega (arith, done-room, w .counted, ap length e, length-append piece rest) in
+        let next : w .done ++ (piece ++ rest) ≡ whole = ap (λ (r : List A). w .done ++ r) (sym e) ∙ w .parted in
+        record {
+          left = record { done = w .done; parted = next; counted = w .counted; written = w .written };
+          room = more;
+          within = omega (arith, same-room);
+          lent = omega (arith, tail-length (w .done) l count (w .written) (w .counted) fits);
+          written = λ n ys f y. record {
+            done = w .done ++ piece;
+            parted = append-assoc (w .done) piece rest ∙ next;
+            counted = omega (arith, w .counted, length-append (w .done) piece);
+            written = tail-home (w .done) l count (w .written) (w .counted) fits piece y;
+          };
+        }
+
+    pub ended : now ≡ [] → (count ≡ length whole) × (out ≡ front whole l)
+    ended e =
+        let all : w .done ≡ whole = sym (append-nil (w .done)) ∙ ap (λ (r : List A). w .done ++ r) (sym e) ∙ w .parted in
+        (w .counted ∙ ap length all, w .written ∙ ap (λ (t : List A). front t l) all)
 
   -- one element is stored
   pub one-written : (whole rest l : List A) (v : A) (count : ℕ) (out : List A) → length whole ≤ length l → Writing whole (v ∷ rest) l count out
@@ -113,5 +120,5 @@ module _ {A : Type 0} where
     counted = omega (arith, w .counted, snoc-length (w .done) v);
     written =
         ap (λ (o : List A). set o count v) (w .written)
-        ∙ front-more (w .done) l count v (w .counted) (omega (arith, piece-room whole (v ∷ []) rest l count out room w));
+        ∙ front-more (w .done) l count v (w .counted) (omega (arith, turn whole (v ∷ rest) l count out room w (v ∷ []) rest refl .room));
   }

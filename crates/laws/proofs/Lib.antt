@@ -9,3 +9,4 @@ pub mod Lists
 pub mod Tests
 pub mod Ranges
 pub mod Fronts
+pub mod Bits

@@ -1,22 +1,19 @@
 -- A set and one band more, as the code puts them together: the shift does not wrap, the set stays a word, and the sets that
 -- start with it are the next piece of the list. Assumes nothing.
-use mathlib.Core.Path.{_≡_, _∙_, ap}
+use Rattle.laws.proofs.Bits.{one-bit}
+use mathlib.Core.Path.{_≡_, ap}
 use mathlib.Core.List.{_++_}
 use Prim.Native.Nat.{ℕ, _+_, _*_, _-_, _%_, _^_, _≤_, _<_, min}
-use native.Mathlib.Nat.{one-mul}
 use native.Mathlib.Omega.{arith}
-use lib.Pow.{pow-mono, shl-exact}
+use lib.Pow.{pow-mono}
 use Rattle.sets.specs.Gains.{joinedBy, PartOf}
 use Rattle.sets.proofs.Joining.{part-joined, joined-step}
 
-pub one-band : (i : ℕ) → i < 16 → 1 * 2 ^ i % 65536 ≡ 2 ^ i
-one-band i h = shl-exact {a = 1} 1 i 16 (omega arith) (omega arith) ∙ one-mul (2 ^ i)
-
 pub mask-fits : (m i : ℕ) → i < 16 → m < 2 ^ i → m + 1 * 2 ^ i % 65536 < 65536
-mask-fits m i h k = let top : 2 ^ i ≤ 32768 = pow-mono {i = i} {j = 15} (omega arith) in omega (arith, one-band i h)
+mask-fits m i h k = let top : 2 ^ i ≤ 32768 = pow-mono {i = i} {j = 15} (omega arith) in omega (arith, one-bit 16 i h)
 
 pub mask-is : (m i : ℕ) → i < 16 → m + 1 * 2 ^ i % 65536 ≡ m + 2 ^ i
-mask-is m i h = ap (λ (b : ℕ). m + b) (one-band i h)
+mask-is m i h = ap (λ (b : ℕ). m + b) (one-bit 16 i h)
 
 -- the set put together, by what `joined` tells of it
 module _ (g : ℕ → ℕ) (m i r from : ℕ) (mask : r ≡ m + 2 ^ i) (next : from ≡ i + 1) where

@@ -1,5 +1,4 @@
 -- Laws of the lift list.
-pub mod Turns
 pub mod Joined
 pub mod Reached
 pub mod Listing

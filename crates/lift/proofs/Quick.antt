@@ -9,7 +9,7 @@ use lib.IntN.{ℤ, pos}
 use lib.ListN.{length, getD, List·getD-map}
 use Rattle.laws.specs.Lists.{listed}
 use Rattle.laws.proofs.Lists.{listed-at}
-use Rattle.quantity.specs.Quantities.{bandOf}
+use Rattle.quantity.specs.Quantities.{bandOf, tenths}
 use Rattle.quantity.specs.declared.quantities.Tenths.{Tenths}
 use Rattle.quantity.specs.declared.quantities.BandSet.{BandSet}
 use Rattle.curve.specs.Bands.{accepted}
@@ -23,7 +23,6 @@ use Rattle.laws.proofs.Tests.{is-true, and-left, and-right}
 use Rattle.lift.specs.Reach.{betterBy, liftList}
 use Rattle.lift.specs.Calls.{inTargets}
 use Rattle.lift.proofs.Listing.{list-is}
-use Rattle.quantity.specs.Quantities.{tenths}
 
 -- bands from the lowest, as a band set
 abbrev setOf : List ℤ → BandSet

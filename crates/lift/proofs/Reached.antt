@@ -10,7 +10,7 @@ use lib.IntN.{ℤ, pos, _+ℤ_, _-ℤ_, _*ℤ_}
 use lib.Signed.{_≤ℤ_}
 use Rattle.laws.proofs.Ints.{plus, minus, apart, times-P, times-N, le-made, le-read}
 use Rattle.laws.proofs.Sums.{sum-mono}
-use Rattle.quantity.specs.Quantities.{inRange, bandOf}
+use Rattle.quantity.specs.Quantities.{inRange, bandOf, tenths}
 use Rattle.quantity.specs.declared.quantities.Tenths.{Tenths}
 use Rattle.quantity.specs.declared.quantities.BandSet.{BandSet}
 use Rattle.curve.specs.Bands.{accepted}
@@ -21,7 +21,7 @@ use Rattle.rating.specs.declared.kinds.Kind.{Kind}
 use Rattle.rating.specs.Kinds.{airborne, bandsOf, limitOf, referenceOf}
 use Rattle.rating.specs.Curve.{deficitBy, deficit, total, within, stricterBy, IsPosition, positionOf, takenOff, ratingOf}
 use Rattle.rating.proofs.Facts.{count-of}
-use Rattle.rating.proofs.Theorems.{position-best}
+use Rattle.rating.proofs.Theorems.{position-best, total-same, rating-same}
 use Rattle.sets.specs.Highest.{highest}
 use Rattle.sets.specs.Gains.{targetAt}
 use Rattle.laws.proofs.Tests.{one-test}
@@ -29,8 +29,6 @@ use Rattle.sets.proofs.Counting.{best-in}
 use Rattle.lift.specs.Reach.{meetsBy, lifted, reaches}
 use Rattle.laws.specs.Lists.{listed}
 use Rattle.laws.proofs.Lists.{listed-at}
-use Rattle.quantity.specs.Quantities.{tenths}
-use Rattle.rating.proofs.Theorems.{total-same, rating-same}
 
 -- ---- a less strict position has no greater deficits
 deficit-less : (sign : Bool) (p q K x : ℤ) → stricterBy sign p q → deficitBy sign q K x ≤ deficitBy sign p K x

@@ -2,13 +2,13 @@
 use mathlib.Core.Path.{_≡_, refl, sym, _∙_, ap}
 use mathlib.Core.Bool.{Bool, true, false, _||_}
 use Prim.Native.Nat.{ℕ, zero, suc, _+_, _*_, _-_, _/_, _%_, _^_, _≤_, _<_}
-use native.Mathlib.Nat.{add-zero, add-comm, one-mul, two-pow-succ, lt-irrefl, mod-eq-of-lt, add-mul-mod-self-right}
+use native.Mathlib.Nat.{add-zero, add-comm, two-pow-succ, lt-irrefl, mod-eq-of-lt, add-mul-mod-self-right}
 use native.Mathlib.Numerals.{add-one}
 use native.Mathlib.Decide.{decLt}
 use native.Mathlib.Omega.{arith}
 use borrow.Author.Tests.{eq-eqb, ne-eqb}
 use lib.Dec.{eqb}
-use lib.Pow.{pow-add, pow-mono, shl-exact, shl-shr, mod-pow-add}
+use lib.Pow.{pow-add, pow-mono, shl-shr, mod-pow-add}
 use Rattle.measurement.specs.Lists.{weightOf}
 use Rattle.laws.specs.Tests.{bit}
 use Rattle.means.specs.Sets.{marksTo}
@@ -21,9 +21,6 @@ second-marked a b c e f = rw (e, f) refl
 
 pub third-marked : (a b c r : Bool) → a ≡ false → b ≡ false → r ≡ c → r ≡ a || (b || c)
 third-marked a b c r e f g = rw (e, f) g
-
-pub one-bit : (j : ℕ) → j < 16 → 1 * 2 ^ j % 65536 ≡ 2 ^ j
-one-bit j h = shl-exact {a = 1} 1 j 16 (omega arith) (omega arith) ∙ one-mul (2 ^ j)
 
 weight-most : (b : Bool) (n : ℕ) → weightOf b n ≤ 2 ^ n
 weight-most true n = omega arith

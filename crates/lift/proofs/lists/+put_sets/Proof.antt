@@ -11,11 +11,10 @@ use borrow.Fn.Kinds.{In}
 use borrow.Fn.PlainCycle.{Measures, is, falls, and}
 use lib.ListN.{length}
 use Rattle.laws.specs.Lists.{front}
-use Rattle.laws.proofs.Fronts.{Writing, none-written}
+use Rattle.laws.proofs.Fronts.{Writing, none-written, Turn, turn, same-room, ended}
 use Rattle.curve.specs.Levels.{at}
 use Rattle.sets.specs.Gains.{joinedBy}
 use Rattle.sets.proofs.Joining.{below-band, sum-small, joined-end}
-use Rattle.lift.proofs.Turns.{Turn, turn, same-room, ended}
 use Rattle.lift.proofs.Joined.{longer-part, longer-piece}
 use Rattle.lift.proofs.lists.put_sets.Reads as put-sets
 use Rattle.lift.proofs.lists.put_sets.Kinds as put-sets-kinds

@@ -5,11 +5,10 @@ use mathlib.Core.Path.{subst}
 use Prim.Native.Nat.{ℕ, _+_, _-_}
 use native.Mathlib.Omega.{arith}
 use borrow.Author.Needs.{needs}
-use Rattle.laws.proofs.Fronts.{Writing, none-written}
+use Rattle.laws.proofs.Fronts.{Writing, none-written, Turn, turn, same-room, ended}
 use Rattle.curve.specs.Levels.{at}
 use Rattle.sets.specs.Gains.{byGains, joinedBy}
 use Rattle.sets.proofs.Joining.{no-part, larger, larger-all, larger-step, larger-end}
-use Rattle.lift.proofs.Turns.{Turn, turn, same-room, ended}
 use Rattle.lift.proofs.lists.fill.Statement.{statement}
 use Rattle.lift.proofs.lists.fill.Tie as tie
 

@@ -9,11 +9,10 @@ use native.Mathlib.Omega.{arith}
 use borrow.Author.Needs.{needs}
 use lib.ListN.{length, set}
 use Rattle.laws.specs.Lists.{front}
-use Rattle.laws.proofs.Fronts.{Writing, none-written, one-written}
+use Rattle.laws.proofs.Fronts.{Writing, none-written, one-written, Turn, turn, same-room, ended}
 use Rattle.curve.specs.Levels.{at}
 use Rattle.sets.specs.Gains.{joinedBy}
 use Rattle.sets.proofs.Joining.{Last, last-band, last-none, least-small, joined-end}
-use Rattle.lift.proofs.Turns.{Turn, turn, same-room, ended}
 use Rattle.lift.proofs.Joined.{mask-fits, mask-is}
 use Rattle.lift.proofs.lists.put_last.Statement.{statement}
 use Rattle.lift.proofs.lists.put_last.Tie as tie
