@@ -3,7 +3,6 @@
 use borrow.Author.Needs.{needs}
 use mathlib.Core.Path.{_≡_, ap}
 use native.Mathlib.Omega.{arith}
-use Rattle.ledger.specs.Closings.{closedOf}
 use Rattle.register.specs.Registers.{owedAnswer}
 use Rattle.door.specs.Registers.{OwedFits, owedGiven, closeLeft}
 use Rattle.door.proofs.Bills.{owed-fits, gave-short, gave-room}
