@@ -19,7 +19,7 @@ abbrev μ-loop : tie.MeasureT-loop
 
 loop-holds : tie.Need-loop-holds Inv-loop μ-loop
 unfolding accepted
-loop-holds c = (omega arith, sym (all-none (λ i. inRange (bandOf (c .args .t1) i))))
+loop-holds c = (omega arith, sym (all-none _))
 
 mul-value : tie.Need-mul-value Inv-loop μ-loop
 mul-value c = omega arith
@@ -42,14 +42,13 @@ loop-less c = omega arith
 loop-again : tie.Need-loop-again Inv-loop μ-loop
 unfolding accepted
 loop-again c =
-    let b = c .before .before .before .before in
-    (omega arith, c .both .ensures ∙ ap₂ _&&_ (b .loop .inv .1) (c .before .in-range .ensures) ∙ sym (all-suc (λ i. inRange (bandOf (b .before .args .t1) i)) (b .loop .i)))
+    let l = c .before .before .before .before .loop in
+    (omega arith, c .both .ensures ∙ ap₂ _&&_ (l .inv .1) (c .before .in-range .ensures) ∙ sym (all-suc (λ i. inRange (bandOf (c .before .before .before .before .before .args .t1) i)) (l .i)))
 
 returns : tie.Need-returns Inv-loop μ-loop
 returns c =
-    let b = c .before in
-    let e : b .loop .i ≡ b .before .args .bands = omega arith in
-    b .loop .inv .1 ∙ ap (accepted (b .before .args .t1)) e
+    let e : c .before .loop .i ≡ c .before .before .args .bands = omega arith in
+    c .before .loop .inv .1 ∙ ap (accepted _) e
 
 pub all-in-range-spec : {M : Type 1} → statement M
 all-in-range-spec =

@@ -16,7 +16,7 @@ abbrev μ-loop : tie.MeasureT-loop
 μ-loop levels bands m powers sum₀ i₀ sum i = bands - i
 
 loop-holds : tie.Need-loop-holds Inv-loop μ-loop
-loop-holds c = (omega arith, energies-none (at (c .args .levels .now)) (c .args .m))
+loop-holds c = (omega arith, energies-none _ _)
 
 mul-energy : tie.Need-mul-energy Inv-loop μ-loop
 mul-energy c = omega arith
@@ -36,8 +36,7 @@ cast-sum c = search needs
 add-sum : tie.Need-add-sum Inv-loop μ-loop
 add-sum c =
     let b = c .before .before .before in
-    let a = b .before .args in
-    omega (arith, energies-most (at (a .levels .now)) (b .loop .i) (a .m), c .energy .ok)
+    omega (arith, energies-most (at (b .before .args .levels .now)) (b .loop .i) (b .before .args .m), c .energy .ok)
 
 add-i : tie.Need-add-i Inv-loop μ-loop
 add-i c = omega arith
@@ -46,17 +45,13 @@ loop-less : tie.Need-loop-less Inv-loop μ-loop
 loop-less c = omega arith
 
 loop-again : tie.Need-loop-again Inv-loop μ-loop
-loop-again c =
-    let b = c .before .before .before in
-    let a = b .before .args in
-    (omega arith, energies-more (at (a .levels .now)) (b .loop .i) (a .m) (b .loop .sum) (c .energy .result) (b .loop .inv .1) (c .energy .ensures))
+loop-again c = (omega arith, energies-more _ _ _ _ _ (c .before .before .before .loop .inv .1) (c .energy .ensures))
 
 returns : tie.Need-returns Inv-loop μ-loop
 returns c =
-    let b = c .before in
-    let a = b .before .args in
-    let e : b .loop .i ≡ a .bands = omega arith in
-    b .loop .inv .1 ∙ ap (λ (n : ℕ). energiesOf (at (a .levels .now)) n (a .m)) e
+    let a = c .before .before .args in
+    let e : c .before .loop .i ≡ a .bands = omega arith in
+    c .before .loop .inv .1 ∙ ap (λ (n : ℕ). energiesOf (at (a .levels .now)) n (a .m)) e
 
 pub energies-spec : {M : Type 1} → statement M
 energies-spec =

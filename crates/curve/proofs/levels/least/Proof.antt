@@ -53,9 +53,9 @@ loop-again c =
 returns : tie.Need-returns Inv-loop μ-loop
 unfolding leastOf
 returns c =
-    let b = c .before in
-    let e : b .loop .i ≡ b .before .before .args .bands = omega arith in
-    b .loop .inv .2 ∙ ap (λ (n : ℕ). minTo (at (b .before .before .args .levels .now)) (n - 1)) e
+    let a = c .before .before .before .args in
+    let e : c .before .loop .i ≡ a .bands = omega arith in
+    c .before .loop .inv .2 ∙ ap (λ (n : ℕ). minTo (at (a .levels .now)) (n - 1)) e
 
 pub least-spec : {M : Type 1} → statement M
 least-spec =

@@ -55,18 +55,14 @@ loop-less c = omega arith
 
 loop-again : tie.Need-loop-again Inv-loop μ-loop
 loop-again c =
-    let b = c .before .before .before in
-    let a = b .before .args in (
+    let l = c .before .before .before .loop in (
       omega arith,
-      length-set (b .loop .out) (b .loop .i) (c .level-of .result) ∙ b .loop .inv .1,
-      put-more (b .loop .out) (b .loop .i) (c .level-of .result) (λ j. levelBy (a .airborne) (bandOf (a .t1) j) (getD (a .t4) j 0))
-          (omega arith) (b .loop .inv .2) (c .level-of .ensures),
+      length-set (l .out) (l .i) (c .level-of .result) ∙ l .inv .1,
+      put-more (l .out) (l .i) (c .level-of .result) _ (omega arith) (l .inv .2) (c .level-of .ensures),
     )
 
 returns : tie.Need-returns Inv-loop μ-loop
-returns c =
-    let b = c .before in
-    record { whole = b .loop .inv .1; each = λ j h. b .loop .inv .2 j (omega arith) }
+returns c = record { whole = c .before .loop .inv .1; each = λ j h. c .before .loop .inv .2 j (omega arith) }
 
 pub levels-spec : {M : Type 1} → statement M
 levels-spec =

@@ -26,8 +26,9 @@ element-copy-out-sum c = omega arith
 
 add-sum : tie.Need-add-sum Inv-loop μ-loop
 add-sum c =
-    let b = c .before .before in
-    omega (arith, level-sum-most (at (b .before .args .levels .now)) (b .loop .i) (λ j q. b .before .pre .1 j (omega arith)), b .before .pre .1 (b .loop .i) (omega arith))
+    let s = c .before .before .before in
+    let i = c .before .before .loop .i in
+    omega (arith, level-sum-most (at (s .args .levels .now)) i (λ j q. s .pre .1 j (omega arith)), s .pre .1 i (omega arith))
 
 add-i : tie.Need-add-i Inv-loop μ-loop
 add-i c = omega arith
@@ -43,9 +44,8 @@ loop-again c =
 
 returns : tie.Need-returns Inv-loop μ-loop
 returns c =
-    let b = c .before in
-    let e : b .loop .i ≡ b .before .args .bands = omega arith in
-    b .loop .inv .1 ∙ ap (sumTo (at (b .before .args .levels .now))) e
+    let e : c .before .loop .i ≡ c .before .before .args .bands = omega arith in
+    c .before .loop .inv .1 ∙ ap (sumTo (at (c .before .before .args .levels .now))) e
 
 pub sum-spec : {M : Type 1} → statement M
 sum-spec =

@@ -20,7 +20,7 @@ tenths-requires : tie.Need-tenths-requires Inv-loop μ-loop
 tenths-requires c κs = omega arith
 
 loop-holds : tie.Need-loop-holds Inv-loop μ-loop
-loop-holds c = (omega arith, λ p e. total-none (at (c .before .args .levels .now)) p)
+loop-holds c = (omega arith, λ p e. total-none _ p)
 
 mul-if1 : tie.Need-mul-if1 Inv-loop μ-loop
 mul-if1 c = omega arith
@@ -39,9 +39,10 @@ sub-total c = omega arith
 
 add-total : tie.Need-add-total Inv-loop μ-loop
 add-total c =
-    let b = c .before .before .before .before in
-    let p : ℕ = b .before .before .args .p .0 in
-    omega (arith, total-most (at (b .before .before .args .levels .now)) (b .loop .i) p (omega arith), b .loop .inv .1 p (b .before .tenths .ensures))
+    let l = c .before .before .before .before .loop in
+    let h = c .before .before .before .before .before in
+    let p : ℕ = h .before .args .p .0 in
+    omega (arith, total-most (at (h .before .args .levels .now)) (l .i) p (omega arith), l .inv .1 p (h .tenths .ensures))
 
 add-i : tie.Need-add-i Inv-loop μ-loop
 add-i c = omega arith
@@ -63,10 +64,10 @@ loop-again c =
 
 returns : tie.Need-returns Inv-loop μ-loop
 returns c =
-    let b = c .before in
-    let a = b .before .before .args in
-    let e : b .loop .i ≡ a .bands = omega arith in
-    b .loop .inv .1 (a .p .0) (b .before .tenths .ensures) ∙ ap (λ (n : ℕ). totalAt (at (a .levels .now)) n (a .p .0)) e
+    let t = c .before .before in
+    let a = t .before .args in
+    let e : c .before .loop .i ≡ a .bands = omega arith in
+    c .before .loop .inv .1 (a .p .0) (t .tenths .ensures) ∙ ap (λ (n : ℕ). totalAt (at (a .levels .now)) n (a .p .0)) e
 
 pub total-spec : {M : Type 1} → statement M
 total-spec =

@@ -26,18 +26,13 @@ rate-requires c κs = search needs
 
 returns : tie.Need-returns
 returns c =
-    let b = c .before .before .before .before in
-    let r = c .before .before .before .take-list in
-    let w = c .before .outcome .given in
-    ap ratedAnswer (readings-refused (b .before .args .kind) (b .before .args .readings) (b .before .args .len) (b .bands-of .result) (r .result) (w .0 .0)
-    (b .bands-of .ensures) (r .ensures) (w .1))
+    let r = c .before .before .before in
+    ap ratedAnswer (readings-refused _ _ _ _ _ _ (r .before .bands-of .ensures) (r .take-list .ensures) (c .before .outcome .given .1))
 
 returns-2 : tie.Need-returns-2
 returns-2 c =
-    let b = c .before .before .before .before .before in
-    let r = c .before .before .before .before .take-list in
-    ap ratedAnswer (readings-rated (b .before .args .kind) (b .before .args .readings) (b .before .args .len) (b .bands-of .result) (r .result) (c .rate .result)
-    (b .bands-of .ensures) (r .ensures) (c .before .before .enum-told .given .1) (c .rate .ensures))
+    let t = c .before .before .before .before in
+    ap ratedAnswer (readings-rated _ _ _ _ _ _ (t .before .bands-of .ensures) (t .take-list .ensures) (c .before .before .enum-told .given .1) (c .rate .ensures))
 
 pub rate-readings-spec : {M : Type 1} → statement M
 rate-readings-spec =

@@ -7,9 +7,7 @@ use Rattle.desk_c.proofs.lines.imbrolt_block.Statement.{statement}
 use Rattle.desk_c.proofs.lines.imbrolt_block.Tie as tie
 
 returns : tie.Need-returns
-returns c =
-    let a = c .before .before .before .before .args in
-    block-no-place (a .input .now) (a .skipping) (a .last) (a .out .now) (a .progress .now) (c .if1 .taken)
+returns c = block-no-place _ _ _ _ _ (c .if1 .taken)
 
 is-set-requires : tie.Need-is-set-requires
 is-set-requires c κs = search needs

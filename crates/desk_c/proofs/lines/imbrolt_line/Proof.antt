@@ -1,15 +1,16 @@
 -- `desk_c::lines::imbrolt_line` meets its contract. Assumes nothing.
 use borrow.Author.Needs.{needs}
 use native.Mathlib.Omega.{arith}
+use mathlib.Core.Path.{_≡_}
 use Rattle.desk.proofs.Answers.{wrote-one}
 use Rattle.desk_c.proofs.Lining.{line-no-place, line-written, line-refused}
+use Rattle.reply.specs.Answers.{answerOf}
+use Rattle.line.specs.Answers.{wroteOf}
 use Rattle.desk_c.proofs.lines.imbrolt_line.Statement.{statement}
 use Rattle.desk_c.proofs.lines.imbrolt_line.Tie as tie
 
 returns : tie.Need-returns
-returns c =
-    let a = c .before .before .before .before .args in
-    line-no-place (a .line .now) (a .out .now) (a .at) (a .wrote .now) (c .if1 .taken)
+returns c = line-no-place _ _ _ _ (c .if1 .taken)
 
 answer-line-requires : tie.Need-answer-line-requires
 answer-line-requires c κs = search needs
@@ -32,24 +33,22 @@ same-length c = search needs
 same-length-2 : tie.Need-same-length-2
 same-length-2 c = search needs
 
+-- what the line call wrote
+answered : (c : tie.After-answer-line) → let a = c .before .before .before .before .before .before .args in c .answer-line .result ≡ wroteOf (a .out .now) (a .at) (answerOf (a .line .now))
+answered c = wrote-one (c .answer-line .result) _ (c .answer-line .ensures .0)
+
 returns-2 : tie.Need-returns-2
 returns-2 c =
-    let a = c .before .before .before .before .before .before .before .before .before .before .before .args in
-    let l = c .before .before .before .before .before .answer-line in
-    let w = c .before .n .given in
-    line-written (a .line .now) (a .out .now) (a .at) (a .wrote .now) (omega (arith, c .before .before .before .before .before .before .before .if1 .left)) (l .result) (l .last .1 .0) (wrote-one (l .result) _ (l .ensures .0)) (l .ensures .1)
-    (w .0 .0) (w .1)
+    let l = c .before .before .before .before .before in
+    line-written _ _ _ (l .before .before .before .before .before .before .args .wrote .now) (omega (arith, l .before .before .if1 .left)) _ _ (answered l) (l .answer-line .ensures .1) _ (c .before .n .given .1)
 
 same-length-3 : tie.Need-same-length-3
 same-length-3 c = search needs
 
 returns-3 : tie.Need-returns-3
 returns-3 c =
-    let a = c .before .before .before .before .before .before .before .before .before .before .before .before .args in
-    let l = c .before .before .before .before .before .before .answer-line in
-    let w = c .before .before .refusal .given in
-    line-refused (a .line .now) (a .out .now) (a .at) (a .wrote .now) (omega (arith, c .before .before .before .before .before .before .before .before .if1 .left)) (l .result) (l .last .1 .0) (wrote-one (l .result) _ (l .ensures .0)) (l .ensures .1)
-    (w .0 .0) (c .number .result) (w .1) (c .number .ensures)
+    let l = c .before .before .before .before .before .before in
+    line-refused _ _ _ (l .before .before .before .before .before .before .args .wrote .now) (omega (arith, l .before .before .if1 .left)) _ _ (answered l) (l .answer-line .ensures .1) _ _ (c .before .before .refusal .given .1) (c .number .ensures)
 
 pub imbrolt-line-spec : {M : Type 1} → statement M
 imbrolt-line-spec =

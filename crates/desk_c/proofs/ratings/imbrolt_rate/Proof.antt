@@ -27,15 +27,11 @@ rate-requires : tie.Need-rate-requires
 rate-requires c κs = search needs
 
 give-rated-requires : tie.Need-give-rated-requires
-give-rated-requires c κs =
-    rate-fits (c .before .before .before .before .kind .given .0 .0) (c .before .set-from .result) (c .rate .result) (c .rate .ensures)
+give-rated-requires c κs = rate-fits _ (c .before .set-from .result) _ (c .rate .ensures)
 
 returns : tie.Need-returns
 unfolding rateAnswer
-returns c =
-    let a = c .before .before .before .args in
-    refuses (rateAnswer (a .kind) (a .values .now) (a .marks)) 1 (a .out .now)
-    (by-none (kindOf (a .kind)) (λ k. ratedAnswer (ratedOf k (setFrom (a .values .now) (a .marks)))) (sym (c .before .before .kind-of .ensures) ∙ c .enum-told .given .1))
+returns c = refuses _ 1 _ (by-none _ _ (sym (c .before .before .kind-of .ensures) ∙ c .enum-told .given .1))
 
 same-length : tie.Need-same-length
 same-length c = search needs

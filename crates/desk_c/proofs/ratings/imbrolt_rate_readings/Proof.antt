@@ -38,11 +38,7 @@ give-rated-requires c κs =
 
 returns : tie.Need-returns
 unfolding readingsAnswer
-returns c =
-    let a = c .before .before .before .before .before .args in
-    refuses (readingsAnswer (a .kind) (a .marks .now) (a .values .now)) 1 (a .out .now)
-    (by-none (kindOf (a .kind)) (λ k. ratedAnswer (readingsRated k (readingsFrom (a .marks .now) (a .values .now)) (length (a .values .now))))
-    (sym (c .before .before .kind-of .ensures) ∙ c .enum-told .given .1))
+returns c = refuses _ 1 _ (by-none _ _ (sym (c .before .before .kind-of .ensures) ∙ c .enum-told .given .1))
 
 same-length : tie.Need-same-length
 same-length c = search needs

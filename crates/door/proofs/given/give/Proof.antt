@@ -1,8 +1,8 @@
 -- `door::given::give` meets its contract. The invariant: the numbers so far stand in front. Assumes nothing.
-use Prim.Native.Nat.{_-_}
+use Prim.Native.Nat.{_-_, _≤_}
 use native.Mathlib.Omega.{arith}
 use lib.IntN.{pos}
-use lib.ListN.{getD}
+use lib.ListN.{length}
 use Rattle.quantity.proofs.Rim.{back}
 use Rattle.door.proofs.Fronts.{Written, written-none, written-more, written-all, written-not}
 use Rattle.door.proofs.given.give.Statement.{statement}
@@ -14,11 +14,15 @@ Inv-loop out₀ n answer i₀ out i = Written (pos 0) answer n out₀ out i
 abbrev μ-loop : tie.MeasureT-loop
 μ-loop out₀ n answer i₀ out i = n - i
 
+-- the numbers are as many as the list holds or fewer
+fits : (s : tie.Start Inv-loop μ-loop) → s .args .n ≤ length (s .args .t2)
+fits s = omega (arith, s .pre, s .good .1 .0 .1 .0 .1)
+
 returns : tie.Need-returns Inv-loop μ-loop
-returns c = written-not (pos 0) (c .before .args .t2) (c .before .args .n) (c .before .args .out .now) (omega (arith, c .before .pre, c .before .good .1 .0 .1 .0 .1)) (c .if1 .taken)
+returns c = written-not (pos 0) _ _ _ (fits (c .before)) (c .if1 .taken)
 
 loop-holds : tie.Need-loop-holds Inv-loop μ-loop
-loop-holds c = written-none (pos 0) (c .before .args .t2) (c .before .args .n) (c .before .args .out .now)
+loop-holds c = written-none (pos 0) _ _ _
 
 mul-out : tie.Need-mul-out Inv-loop μ-loop
 mul-out c = omega (arith, c .before .before .before .pre)
@@ -40,18 +44,14 @@ loop-less c = omega arith
 
 loop-again : tie.Need-loop-again Inv-loop μ-loop
 loop-again c =
-    let s = c .before .before .before .before in
     let l = c .before .before .loop in
-    written-more (pos 0) (s .args .t2) (s .args .n) (s .args .out .now) (l .out) (l .i) _ (omega (arith, s .pre, s .good .1 .0 .1 .0 .1)) (omega arith) (omega arith) (back (getD (s .args .t2) (l .i) (pos 0)) (c .out .given)) (l .inv)
+    written-more (pos 0) _ _ _ (l .out) (l .i) _ (fits (c .before .before .before .before)) (omega arith) (omega arith) (back _ (c .out .given)) (l .inv)
 
 same-length : tie.Need-same-length Inv-loop μ-loop
 same-length c = c .before .loop .inv .kept
 
 returns-2 : tie.Need-returns-2 Inv-loop μ-loop
-returns-2 c =
-    let s = c .before .before .before in
-    let l = c .before .loop in
-    written-all (pos 0) (s .args .t2) (s .args .n) (s .args .out .now) (l .out) (l .i) (omega (arith, s .pre, s .good .1 .0 .1 .0 .1)) (omega arith) (omega arith) (l .inv)
+returns-2 c = written-all (pos 0) _ _ _ _ (c .before .loop .i) (fits (c .before .before .before)) (omega arith) (omega arith) (c .before .loop .inv)
 
 pub give-spec : {M : Type 1} → statement M
 give-spec =

@@ -2,21 +2,21 @@
 use borrow.Author.Needs.{needs}
 use mathlib.Core.Path.{_∙_}
 use native.Mathlib.Omega.{arith}
+use Prim.Native.Nat.{_≤_}
 use Rattle.quantity.proofs.Rim.{back, as-pos}
-use Rattle.products.specs.Grades.{gradedAnswer}
 use Rattle.door.proofs.Gives.{given, grade-given, grade-fitting}
 use Rattle.door.proofs.given.give_graded.Statement.{statement}
 use Rattle.door.proofs.given.give_graded.Tie as tie
+
+-- the step of a grade is small
+small : (c : tie.After-known-told) → c .before .graded .given .0 .0 .grade ≤ 6
+small c = grade-fitting _ _ (c .before .graded .given .1) (c .before .before .before .pre)
 
 enum-known-graded : tie.Need-enum-known-graded
 enum-known-graded c = search needs
 
 cast-step : tie.Need-cast-step
-cast-step c =
-    let s = c .before .before .before .before .before .before .before .before in
-    let w = c .before .before .before .before .before .before .graded .given in
-    let h = grade-fitting (s .args .graded) (w .0 .0) (w .1) (s .pre) in
-    record { sfits = omega arith }
+cast-step c = record { sfits = omega (arith, small (c .before .before .before .before .before)) }
 
 flag-of-requires : tie.Need-flag-of-requires
 flag-of-requires c κs = search needs
@@ -53,19 +53,18 @@ same-length c = search needs
 
 returns : tie.Need-returns
 returns c =
-    let w = c .before .before .before .before .before .before .before .before .before .before .graded .given in
-    let s = c .before .before .before .before .before .before .before .before .before .before .before .before in
-    let g = c .before .give in
-    let f = c .before .before .before .flag-of in
-    given _ (gradedAnswer (s .args .graded)) (g .result) (s .args .out .now) (g .last .0)
-    (grade-given (s .args .graded) (w .0 .0) _ _ _ _ _ _ (w .1)
-    (back (w .0 .0 .rating .0) (c .before .before .before .before .before .before .before .before .struct-told .given .0 .1 .1 .0 .1))
-    (back (w .0 .0 .c .0) (c .before .before .before .before .before .before .before .struct-told2 .given .1 .0 .1 .1 .0 .1))
-    (back (w .0 .0 .ctr .0) (c .before .before .before .before .before .before .struct-told3 .given .1 .1 .0 .1 .1 .0 .1))
-    (back (w .0 .0 .deciding .0) (c .before .before .before .before .before .struct-told4 .given .1 .1 .1 .0 .1 .1 .0 .1))
-    (as-pos (w .0 .0 .grade) (omega (arith, grade-fitting (s .args .graded) (w .0 .0) (w .1) (s .pre))))
-    (back (f .result) (f .ok) ∙ f .ensures))
-    (g .ensures)
+    let f = c .before .before .before in
+    let t = f .before .before in
+    let k = t .before .before .before .before in
+    given _ _ _ _ _
+    (grade-given _ _ _ _ _ _ _ _ (k .before .graded .given .1)
+    (back _ (t .before .before .before .struct-told .given .0 .1 .1 .0 .1))
+    (back _ (t .before .before .struct-told2 .given .1 .0 .1 .1 .0 .1))
+    (back _ (t .before .struct-told3 .given .1 .1 .0 .1 .1 .0 .1))
+    (back _ (t .struct-told4 .given .1 .1 .1 .0 .1 .1 .0 .1))
+    (as-pos _ (omega (arith, small k)))
+    (back (f .flag-of .result) (f .flag-of .ok) ∙ f .flag-of .ensures))
+    (c .before .give .ensures)
 
 returns-2 : tie.Need-returns-2
 returns-2 c = search needs

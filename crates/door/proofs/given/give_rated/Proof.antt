@@ -1,6 +1,5 @@
 -- `door::given::give_rated` meets its contract. Assumes nothing.
 use borrow.Author.Needs.{needs}
-use Rattle.rating.specs.Sheets.{ratedAnswer}
 use Rattle.door.proofs.Gives.{given, rated-given, fitting}
 use Rattle.door.proofs.given.give_rated.Statement.{statement}
 use Rattle.door.proofs.given.give_rated.Tie as tie
@@ -9,10 +8,7 @@ enum-known-rated : tie.Need-enum-known-rated
 enum-known-rated c = search needs
 
 sheet-numbers-requires : tie.Need-sheet-numbers-requires
-sheet-numbers-requires c κs =
-    let s = c .before .before .before .before in
-    let w = c .before .before .rated .given in
-    fitting (s .args .rated) (w .0 .0) (w .1) (s .pre)
+sheet-numbers-requires c κs = fitting _ _ (c .before .before .rated .given .1) (c .before .before .before .before .pre)
 
 give-requires : tie.Need-give-requires
 give-requires c κs = search needs
@@ -28,12 +24,7 @@ same-length c = search needs
 
 returns : tie.Need-returns
 returns c =
-    let s = c .before .before .before .before .before .before .before in
-    let w = c .before .before .before .before .before .rated .given in
-    let g = c .before .give in
-    given _ (ratedAnswer (s .args .rated)) (g .result) (s .args .out .now) (g .last .0)
-    (rated-given (s .args .rated) (w .0 .0) _ (w .1) (c .before .before .sheet-numbers .ensures .0))
-    (g .ensures)
+    given _ _ _ _ _ (rated-given _ _ _ (c .before .before .before .before .before .rated .given .1) (c .before .before .sheet-numbers .ensures .0)) (c .before .give .ensures)
 
 returns-2 : tie.Need-returns-2
 returns-2 c = search needs

@@ -1,10 +1,8 @@
 -- `door::given::give_set` meets its contract. Assumes nothing.
 use borrow.Author.Needs.{needs}
 use mathlib.Core.Path.{sym, _∙_, ap}
-use Prim.Native.Nat.{_+_}
-use lib.ListN.{take}
 use Rattle.quantity.specs.Answers.Answer.{refused, numbers}
-use Rattle.measurement.specs.Lists.{setAnswer, intakeAnswer}
+use Rattle.measurement.specs.Lists.{setAnswer}
 use Rattle.door.proofs.Gives.{given, refuses}
 use Rattle.door.proofs.given.give_set.Statement.{statement}
 use Rattle.door.proofs.given.give_set.Tie as tie
@@ -30,19 +28,16 @@ give-requires c κs = search needs
 returns : tie.Need-returns
 returns c =
     let a = c .before .before .before .before .args in
-    refuses (intakeAnswer (a .intake) (a .n)) (c .number .result) (a .out .now)
-    (ap refused (c .number .ensures) ∙ ap (setAnswer (a .intake .set) (a .n)) (sym (c .before .before .outcome .given .1)))
+    refuses _ _ _ (ap refused (c .number .ensures) ∙ ap (setAnswer (a .intake .set) (a .n)) (sym (c .before .before .outcome .given .1)))
 
 same-length : tie.Need-same-length
 same-length c = search needs
 
 returns-2 : tie.Need-returns-2
 returns-2 c =
-    let a = c .before .before .before .before .before .before .before .args in
-    let g = c .before .give in
-    let t = c .before .before .before .set-numbers in
-    given (numbers (take (a .n + 1) (t .result))) (intakeAnswer (a .intake) (a .n)) (g .result) (a .out .now) (g .last .0)
-    (ap numbers (t .ensures) ∙ ap (setAnswer (a .intake .set) (a .n)) (sym (c .before .before .before .before .before .enum-told .given .1))) (g .ensures)
+    let e = c .before .before .before .before .before in
+    let a = e .before .before .args in
+    given _ _ _ _ _ (ap numbers (c .before .before .before .set-numbers .ensures) ∙ ap (setAnswer (a .intake .set) (a .n)) (sym (e .enum-told .given .1))) (c .before .give .ensures)
 
 pub give-set-spec : {M : Type 1} → statement M
 give-set-spec =

@@ -20,7 +20,7 @@ abbrev μ-loop : tie.MeasureT-loop
 μ-loop n set answer₀ i₀ answer i = n - i
 
 loop-holds : tie.Need-loop-holds Inv-loop μ-loop
-loop-holds c = (omega arith, agreed-none (pos 0) (bandOf (c .args .t1)) 17 _ refl)
+loop-holds c = (omega arith, agreed-none (pos 0) _ 17 _ refl)
 
 mul-value : tie.Need-mul-value Inv-loop μ-loop
 mul-value c = omega (arith, c .before .before .pre)
@@ -42,10 +42,9 @@ loop-less c = omega arith
 
 loop-again : tie.Need-loop-again Inv-loop μ-loop
 loop-again c =
-    let s = c .before .before .before .before in
     let l = c .before .before .before .loop in (
       omega arith,
-      agreed-set (pos 0) (bandOf (s .args .t1)) 17 (l .answer) (l .i) _ (omega (arith, s .pre)) (back (bandOf (s .args .t1) (l .i)) (c .struct-told .given .0 .1)) (l .inv .1),
+      agreed-set (pos 0) _ 17 (l .answer) (l .i) _ (omega (arith, c .before .before .before .before .pre)) (back _ (c .struct-told .given .0 .1)) (l .inv .1),
     )
 
 marks-of-requires : tie.Need-marks-of-requires Inv-loop μ-loop

@@ -34,13 +34,11 @@ returns c =
 
 returns-2 : tie.Need-returns-2
 returns-2 c =
-    let a = c .before .before .before .before .args in
-    reading-past-values (a .marks .now) (a .values .now) (a .i) (omega arith) (omega arith)
+    let s = c .before .before .before .before in
+    reading-past-values (s .args .marks .now) (s .args .values .now) (s .args .i) (omega arith) (omega arith)
 
 returns-3 : tie.Need-returns-3
-returns-3 c =
-    let a = c .before .before .before .args in
-    reading-past-marks (a .marks .now) (a .values .now) (a .i) (c .if1 .left)
+returns-3 c = reading-past-marks _ _ _ (c .if1 .left)
 
 pub reading-at-spec : {M : Type 1} → statement M
 reading-at-spec =

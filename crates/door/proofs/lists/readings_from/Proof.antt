@@ -18,9 +18,7 @@ abbrev μ-loop : tie.MeasureT-loop
 μ-loop marks values readings₀ i₀ readings i = 48 - i
 
 loop-holds : tie.Need-loop-holds Inv-loop μ-loop
-loop-holds c =
-    let a = c .before .before .args in
-    agreed-none (Level nan) (readingAt (a .marks .now) (a .values .now)) 48 _ refl
+loop-holds c = agreed-none (Level nan) _ 48 _ refl
 
 reading-at-requires : tie.Need-reading-at-requires Inv-loop μ-loop
 reading-at-requires c κs = search needs
@@ -39,16 +37,12 @@ loop-less c = omega arith
 
 loop-again : tie.Need-loop-again Inv-loop μ-loop
 loop-again c =
-    let a = c .before .before .before .before .before .args in
     let l = c .before .before .loop in
-    agreed-set (Level nan) (readingAt (a .marks .now) (a .values .now)) 48 (l .readings) (l .i) (c .reading-at .result) (omega arith) (c .reading-at .ensures) (l .inv)
+    agreed-set (Level nan) _ 48 (l .readings) (l .i) (c .reading-at .result) (omega arith) (c .reading-at .ensures) (l .inv)
 
 returns : tie.Need-returns Inv-loop μ-loop
 unfolding readingsFrom
-returns c =
-    let a = c .before .before .before .before .args in
-    let l = c .before .loop in
-    agreed-all (Level nan) (readingAt (a .marks .now) (a .values .now)) 48 (l .readings) (l .i) (omega arith) (l .inv)
+returns c = agreed-all (Level nan) _ 48 (c .before .loop .readings) (c .before .loop .i) (omega arith) (c .before .loop .inv)
 
 pub readings-from-spec : {M : Type 1} → statement M
 readings-from-spec =

@@ -19,8 +19,7 @@ abbrev μ-loop : tie.MeasureT-loop
 μ-loop values marks tenths₀ i₀ tenths i = 16 - i
 
 loop-holds : tie.Need-loop-holds Inv-loop μ-loop
-loop-holds c =
-    agreed-none (record { 0 = pos 0 }) (tenthsAt (c .args .values .now)) 16 _ refl
+loop-holds c = agreed-none (record { 0 = pos 0 }) _ 16 _ refl
 
 tenths-at-requires : tie.Need-tenths-at-requires Inv-loop μ-loop
 tenths-at-requires c κs = search needs
@@ -40,7 +39,7 @@ loop-less c = omega arith
 loop-again : tie.Need-loop-again Inv-loop μ-loop
 loop-again c =
     let l = c .before .before .loop in
-    agreed-set (record { 0 = pos 0 }) (tenthsAt (c .before .before .before .args .values .now)) 16 (l .tenths) (l .i) (c .tenths-at .result) (omega arith) (c .tenths-at .ensures) (l .inv)
+    agreed-set (record { 0 = pos 0 }) _ 16 (l .tenths) (l .i) (c .tenths-at .result) (omega arith) (c .tenths-at .ensures) (l .inv)
 
 cast-t13 : tie.Need-cast-t13 Inv-loop μ-loop
 cast-t13 c = omega arith
@@ -49,9 +48,8 @@ returns : tie.Need-returns Inv-loop μ-loop
 unfolding setFrom
 returns c =
     let a = c .before .before .args in
-    let l = c .before .loop in
     ap (λ (v : List Tenths). record { values = v; marks = a .marks % 65536; len = length (a .values .now) })
-    (agreed-all (record { 0 = pos 0 }) (tenthsAt (a .values .now)) 16 (l .tenths) (l .i) (omega arith) (l .inv))
+    (agreed-all (record { 0 = pos 0 }) _ 16 (c .before .loop .tenths) (c .before .loop .i) (omega arith) (c .before .loop .inv))
 
 pub set-from-spec : {M : Type 1} → statement M
 set-from-spec =

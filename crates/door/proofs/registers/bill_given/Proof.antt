@@ -26,10 +26,7 @@ entered c =
 call : (c : tie.After-enter) → entered c ≡ asked (start c)
 call c =
     let b = c .before .before in
-    let n = b .before .before .kind-of in
-    let a = start c .args in
-    call-given (a .customer) (a .key .now) (a .kind) (a .values .now) (a .marks) (a .price) (n .result) (b .before .set-from .result) (b .bands-asked .result) (c .before .kind-asked .result)
-    (n .ensures) (b .before .set-from .ensures) (b .bands-asked .ensures) (c .before .kind-asked .ensures)
+    call-given _ _ _ _ _ _ _ _ _ _ (b .before .before .kind-of .ensures) (b .before .set-from .ensures) (b .bands-asked .ensures) (c .before .kind-asked .ensures)
 
 -- its answer, and the register that it leaves
 answer : (c : tie.After-enter) → billedAnswer (c .enter .result .billed) ≡ billAnswer (start c .args .register) (asked (start c))
@@ -40,7 +37,7 @@ left : (c : tie.After-enter) → c .enter .result .register ≡ afterOf (start c
 left c = c .enter .ensures .1 ∙ ap (afterOf (start c .args .register)) (call c)
 
 fits : (c : tie.After-enter) → BillFits (c .enter .result .billed)
-fits c = bill-fits (start c .args .register) (entered c) (c .enter .result .billed) (c .enter .ensures .0)
+fits c = bill-fits _ (entered c) _ (c .enter .ensures .0)
 
 kind-of-requires : tie.Need-kind-of-requires
 kind-of-requires c κs = search needs
@@ -66,11 +63,7 @@ same-length c = search needs
 returns : tie.Need-returns
 unfolding billLeft
 returns c =
-    let t = c .before .before .before .before in
-    let s = start t in
-    let g = c .before .give-billed in
-    gave-short 7 (s .args .register) (afterOf (s .args .register) (asked s)) (billAnswer (s .args .register) (asked s)) (billedAnswer (t .enter .result .billed)) (g .result) (s .args .out .now) (g .last .0)
-    (answer t) (g .ensures) (omega (arith, c .before .before .before .if1 .taken))
+    gave-short 7 _ _ _ _ _ _ _ (answer (c .before .before .before .before)) (c .before .give-billed .ensures) (omega (arith, c .before .before .before .if1 .taken))
 
 give-billed-requires-2 : tie.Need-give-billed-requires-2
 give-billed-requires-2 c κs = fits (c .before .before .before)
@@ -82,10 +75,7 @@ returns-2 : tie.Need-returns-2
 unfolding billLeft
 returns-2 c =
     let t = c .before .before .before .before .before in
-    let s = start t in
-    let g = c .before .give-billed2 in
-    gave-room 7 (s .args .register) (afterOf (s .args .register) (asked s)) (billAnswer (s .args .register) (asked s)) (billedAnswer (t .enter .result .billed)) (g .result) (s .args .out .now) (g .last .0)
-    (answer t) (g .ensures) (t .enter .result .register) (left t) (omega (arith, c .before .before .before .before .if1 .left))
+    gave-room 7 _ _ _ _ _ _ _ (answer t) (c .before .give-billed2 .ensures) _ (left t) (omega (arith, c .before .before .before .before .if1 .left))
 
 pub bill-given-spec : {M : Type 1} → statement M
 bill-given-spec =

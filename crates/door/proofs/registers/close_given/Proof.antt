@@ -3,7 +3,6 @@
 use borrow.Author.Needs.{needs}
 use mathlib.Core.Path.{_≡_, ap}
 use native.Mathlib.Omega.{arith}
-use Rattle.ledger.specs.Closings.{closedOf}
 use Rattle.register.specs.Registers.{owedAnswer}
 use Rattle.door.specs.Registers.{OwedFits, owedGiven, closeLeft}
 use Rattle.door.proofs.Bills.{owed-fits, gave-short, gave-room}
@@ -15,7 +14,7 @@ unfolding owedGiven
 answer c = ap owedAnswer (c .close-for .ensures .0)
 
 fits : (c : tie.After-close-for) → OwedFits (c .close-for .result .owed)
-fits c = owed-fits (c .before .args .register) (c .before .args .customer) (c .close-for .result .owed) (c .close-for .ensures .0)
+fits c = owed-fits _ _ _ (c .close-for .ensures .0)
 
 close-for-requires : tie.Need-close-for-requires
 close-for-requires c κs = search needs
@@ -29,11 +28,7 @@ same-length c = search needs
 returns : tie.Need-returns
 unfolding closeLeft
 returns c =
-    let t = c .before .before .before .before in
-    let a = t .before .args in
-    let g = c .before .give-owed in
-    gave-short 1 (a .register) (closedOf (a .register) (a .customer)) (owedGiven (a .register) (a .customer)) (owedAnswer (t .close-for .result .owed)) (g .result) (a .out .now) (g .last .0)
-    (answer t) (g .ensures) (omega (arith, c .before .before .before .if1 .taken))
+    gave-short 1 _ _ _ _ _ _ _ (answer (c .before .before .before .before)) (c .before .give-owed .ensures) (omega (arith, c .before .before .before .if1 .taken))
 
 give-owed-requires-2 : tie.Need-give-owed-requires-2
 give-owed-requires-2 c κs = fits (c .before .before .before)
@@ -45,10 +40,7 @@ returns-2 : tie.Need-returns-2
 unfolding closeLeft
 returns-2 c =
     let t = c .before .before .before .before .before in
-    let a = t .before .args in
-    let g = c .before .give-owed2 in
-    gave-room 1 (a .register) (closedOf (a .register) (a .customer)) (owedGiven (a .register) (a .customer)) (owedAnswer (t .close-for .result .owed)) (g .result) (a .out .now) (g .last .0)
-    (answer t) (g .ensures) (t .close-for .result .register) (t .close-for .ensures .1) (omega (arith, c .before .before .before .before .if1 .left))
+    gave-room 1 _ _ _ _ _ _ _ (answer t) (c .before .give-owed2 .ensures) _ (t .close-for .ensures .1) (omega (arith, c .before .before .before .before .if1 .left))
 
 pub close-given-spec : {M : Type 1} → statement M
 close-given-spec =

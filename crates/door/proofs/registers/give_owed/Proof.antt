@@ -1,23 +1,22 @@
 -- `door::registers::give_owed` meets its contract. Assumes nothing.
 use borrow.Author.Needs.{needs}
-use Prim.Native.Nat.{_<_}
+use Prim.Native.Nat.{_≤_}
 use native.Mathlib.Omega.{arith}
 use Rattle.quantity.proofs.Rim.{as-pos}
-use Rattle.register.specs.Registers.{owedAnswer}
 use Rattle.door.proofs.Gives.{given}
 use Rattle.door.proofs.Bills.{owed-fitting, total-given}
 use Rattle.door.proofs.registers.give_owed.Statement.{statement}
 use Rattle.door.proofs.registers.give_owed.Tie as tie
 
+-- a total fits its number
+fits : (c : tie.After-known-told) → c .before .owed .given .0 .0 .0 ≤ 512000000
+fits c = owed-fitting _ _ (c .before .owed .given .1) (c .before .before .before .pre)
+
 enum-known-owed : tie.Need-enum-known-owed
 enum-known-owed c = search needs
 
 cast-total : tie.Need-cast-total
-cast-total c =
-    let s = c .before .before .before .before in
-    let w = c .before .before .owed .given in
-    let h : w .0 .0 .0 < 2147483648 = omega (arith, owed-fitting (s .args .owed) (w .0 .0) (w .1) (s .pre)) in
-    record { sfits = h }
+cast-total c = record { sfits = omega (arith, fits (c .before)) }
 
 array-set-from-answer : tie.Need-array-set-from-answer
 array-set-from-answer c = search needs
@@ -36,12 +35,8 @@ same-length c = search needs
 
 returns : tie.Need-returns
 returns c =
-    let s = c .before .before .before .before .before .before .before in
-    let w = c .before .before .before .before .before .owed .given in
-    let g = c .before .give in
-    given _ (owedAnswer (s .args .owed)) (g .result) (s .args .out .now) (g .last .0)
-    (total-given (s .args .owed) (w .0 .0) (w .1) _ (as-pos (w .0 .0 .0) (omega (arith, owed-fitting (s .args .owed) (w .0 .0) (w .1) (s .pre)))))
-    (g .ensures)
+    let b = c .before .before .before .before in
+    given _ _ _ _ _ (total-given _ _ (b .before .owed .given .1) _ (as-pos _ (omega (arith, fits b)))) (c .before .give .ensures)
 
 returns-2 : tie.Need-returns-2
 returns-2 c = search needs

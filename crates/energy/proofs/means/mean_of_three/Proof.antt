@@ -48,34 +48,37 @@ cast-s-3 c = search needs
 add-s-2 : tie.Need-add-s-2
 add-s-2 c = search needs
 
--- the three energies add up to the sum of the definition
-added : (c : tie.After-energy3)
-    → c .before .before .energy .result + c .before .energy2 .result + c .energy3 .result
-    ≡ sum₃ (c .before .before .before .before .before .args .x) (c .before .before .before .before .before .args .y) (c .before .before .before .before .before .args .z)
-added c =
-    let l = c .before .before .before in
-    let a = l .before .before .args in
-    mean-sum (a .x) (a .y) (a .z) (l .lesser2 .result) (c .before .before .energy .result) (c .before .energy2 .result) (c .energy3 .result)
-    (l .lesser2 .ensures ∙ ap (min (a .x)) (l .before .lesser .ensures)) (c .before .before .energy .ensures) (c .before .energy2 .ensures) (c .energy3 .ensures)
+-- the least of the three, and that the energies add up to the sum of the definition, which is bounded
+abbrev start : tie.After-energy3 → tie.Start
+start c = c .before .before .before .before .before
+
+abbrev sum : tie.After-energy3 → ℕ
+sum c = sum₃ (start c .args .x) (start c .args .y) (start c .args .z)
+
+least : (c : tie.After-energy3) → let a = start c .args in c .before .before .before .lesser2 .result ≡ min (a .x) (min (a .y) (a .z))
+least c = let l = c .before .before .before in l .lesser2 .ensures ∙ ap (min (start c .args .x)) (l .before .lesser .ensures)
+
+added : (c : tie.After-energy3) → c .before .before .energy .result + c .before .energy2 .result + c .energy3 .result ≡ sum c
+added c = let a = start c .args in mean-sum (a .x) (a .y) (a .z) _ _ _ _ (least c) (c .before .before .energy .ensures) (c .before .energy2 .ensures) (c .energy3 .ensures)
+
+bounds : (c : tie.After-energy3) → (1000000000 ≤ sum c) × (sum c ≤ 3000000000)
+bounds c = sum-bounds _ _ _
 
 step-of-sum-requires : tie.Need-step-of-sum-requires
-step-of-sum-requires c κs =
-    let a = c .before .before .before .before .before .args in
-    rw (added c) (sum-bounds (a .x) (a .y) (a .z))
+step-of-sum-requires c κs = rw (added c) (bounds c)
+
+-- the step of the sum
+step : (c : tie.After-step-of-sum) → c .step-of-sum .result ≡ v (sum (c .before))
+step c = c .step-of-sum .ensures ∙ ap v (added (c .before))
 
 add-result : tie.Need-add-result
 add-result c =
-    let a = c .before .before .before .before .before .before .args in
-    let s : ℕ = sum₃ (a .x) (a .y) (a .z) in
-    let b : (1000000000 ≤ s) × (s ≤ 3000000000) = sum-bounds (a .x) (a .y) (a .z) in
-    omega (arith, v-most s (b .0) (b .1), c .step-of-sum .ensures ∙ ap v (added (c .before)))
+    let b = bounds (c .before) in
+    omega (arith, v-most (sum (c .before)) (b .0) (b .1), step c)
 
 returns : tie.Need-returns
 unfolding mean₃
-returns c =
-    let l = c .before .before .before .before in
-    let a = l .before .before .args in
-    ap₂ _+_ (l .lesser2 .ensures ∙ ap (min (a .x)) (l .before .lesser .ensures)) (c .step-of-sum .ensures ∙ ap v (added (c .before)))
+returns c = ap₂ _+_ (least (c .before)) (step c)
 
 pub mean-of-three-spec : {M : Type 1} → statement M
 mean-of-three-spec =

@@ -1,10 +1,21 @@
 -- `energy::steps::level` meets its contract: u lies between the start of its stretch and one more. Assumes nothing.
 use borrow.Author.Needs.{needs}
-use Prim.Native.Nat.{ℕ, _-_, _/_}
+use Prim.Native.Nat.{ℕ, suc, _-_, _/_, _≤_}
 use native.Mathlib.Omega.{arith}
 use lib.ListN.{getD}
+use Rattle.energy.specs.Energies.{u}
 use Rattle.energy.proofs.steps.level.Statement.{statement}
 use Rattle.energy.proofs.steps.level.Tie as tie
+
+-- the start of the stretch: u(S) is that or one more
+abbrev below : tie.Start → ℕ
+below s = getD (s .args .starts .now) ((s .args .s - 1000000000) / 16777216) 0
+
+least : (s : tie.Start) → below s ≤ u (s .args .s)
+least s = s .pre .1 .1 .least (s .args .s) (s .pre .0)
+
+most : (s : tie.Start) → u (s .args .s) ≤ suc (below s)
+most s = s .pre .1 .1 .most (s .args .s) (s .pre .0)
 
 sub-stretch : tie.Need-sub-stretch
 sub-stretch c = search needs
@@ -13,9 +24,7 @@ element-copy-out-below : tie.Need-element-copy-out-below
 element-copy-out-below c = search needs
 
 returns : tie.Need-returns
-returns c =
-    let b = c .before .before in
-    omega (arith, b .pre .1 .1 .least (b .args .s) (b .pre .0), b .pre .1 .0 .most (b .args .s) (b .pre .0))
+returns c = omega (arith, least (c .before .before), c .before .before .pre .1 .0 .most _ (c .before .before .pre .0))
 
 cast-if2 : tie.Need-cast-if2
 cast-if2 c = search needs
@@ -35,8 +44,7 @@ add-result c = search needs
 returns-2 : tie.Need-returns-2
 returns-2 c =
     let b = c .before .before .before .before in
-    let k : ℕ = getD (b .args .starts .now) ((b .args .s - 1000000000) / 16777216) 0 in
-    omega (arith, b .pre .1 .1 .most (b .args .s) (b .pre .0), b .pre .1 .0 .reached (b .args .s) k (b .pre .0) (omega arith) (c .if2 .taken))
+    omega (arith, most b, b .pre .1 .0 .reached (b .args .s) (below b) (b .pre .0) (omega arith) (c .if2 .taken))
 
 cast-result-2 : tie.Need-cast-result-2
 cast-result-2 c = search needs
@@ -44,8 +52,7 @@ cast-result-2 c = search needs
 returns-3 : tie.Need-returns-3
 returns-3 c =
     let b = c .before .before .before .before in
-    let k : ℕ = getD (b .args .starts .now) ((b .args .s - 1000000000) / 16777216) 0 in
-    omega (arith, b .pre .1 .1 .least (b .args .s) (b .pre .0), b .pre .1 .0 .missed (b .args .s) k (b .pre .0) (omega arith) (c .if2 .left))
+    omega (arith, least b, b .pre .1 .0 .missed (b .args .s) (below b) (b .pre .0) (omega arith) (c .if2 .left))
 
 pub level-spec : {M : Type 1} → statement M
 level-spec =

@@ -50,18 +50,17 @@ loop-less-2 : tie.Need-loop-less-2 Inv-loop μ-loop
 loop-less-2 c = omega arith
 
 loop-again-2 : tie.Need-loop-again-2 Inv-loop μ-loop
-loop-again-2 c =
-    let b = c .before .before .before in
-    (omega arith, omega arith, b .loop .inv .2, λ h. c .if1 .left)
+loop-again-2 c = (omega arith, omega arith, c .before .before .before .loop .inv .2, λ h. c .if1 .left)
 
 returns : tie.Need-returns Inv-loop μ-loop
 returns c =
-    let b = c .before in
-    let e : b .loop .high ≡ b .loop .low = omega arith in
+    let l = c .before .loop in
+    let a = c .before .before .args in
+    let e : l .high ≡ l .low = omega arith in
     record {
       within = omega arith;
-      below = b .loop .inv .2;
-      above = subst (λ (n : ℕ). n < length (b .before .args .table .now) → b .before .args .s < getD (b .before .args .table .now) n 0) e (b .loop .inv .3);
+      below = l .inv .2;
+      above = subst (λ (n : ℕ). n < length (a .table .now) → a .s < getD (a .table .now) n 0) e (l .inv .3);
     }
 
 pub reached-spec : {M : Type 1} → statement M

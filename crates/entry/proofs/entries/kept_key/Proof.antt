@@ -15,7 +15,7 @@ abbrev μ-loop : tie.MeasureT-loop
 μ-loop key bytes₀ i₀ bytes i = 32 - i
 
 loop-holds : tie.Need-loop-holds Inv-loop μ-loop
-loop-holds c = agreed-none 0 (λ j. getD (c .before .args .key .now) j 0) 32 _ refl
+loop-holds c = agreed-none 0 _ 32 _ refl
 
 byte-requires : tie.Need-byte-requires Inv-loop μ-loop
 byte-requires c κs = search needs
@@ -32,12 +32,11 @@ loop-less c = omega arith
 loop-again : tie.Need-loop-again Inv-loop μ-loop
 loop-again c =
     let l = c .before .before .loop in
-    agreed-set 0 (λ j. getD (c .before .before .before .before .args .key .now) j 0) 32 (l .bytes) (l .i) (c .byte .result) (omega arith) (c .byte .ensures) (l .inv)
+    agreed-set 0 _ 32 (l .bytes) (l .i) (c .byte .result) (omega arith) (c .byte .ensures) (l .inv)
 
 returns : tie.Need-returns Inv-loop μ-loop
 returns c =
-    let l = c .before .loop in
-    agreed-all 0 (λ j. getD (c .before .before .before .args .key .now) j 0) 32 (l .bytes) (l .i) (omega arith) (l .inv)
+    agreed-all 0 (λ j. getD (c .before .before .before .args .key .now) j 0) 32 (c .before .loop .bytes) (c .before .loop .i) (omega arith) (c .before .loop .inv)
 
 pub kept-key-spec : {M : Type 1} → statement M
 kept-key-spec =

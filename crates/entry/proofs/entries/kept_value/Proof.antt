@@ -11,14 +11,10 @@ element-copy-out-result : tie.Need-element-copy-out-result
 element-copy-out-result c = search needs
 
 returns : tie.Need-returns
-returns c =
-    let a = c .before .before .args in
-    kept-within (a .t1) (a .n) (a .i) (c .before .if1 .taken)
+returns c = kept-within (c .before .before .args .t1) _ _ (c .before .if1 .taken)
 
 returns-2 : tie.Need-returns-2
-returns-2 c =
-    let a = c .before .args in
-    kept-past (a .t1) (a .n) (a .i) (c .if1 .left)
+returns-2 c = kept-past (c .before .args .t1) _ _ (c .if1 .left)
 
 pub kept-value-spec : {M : Type 1} → statement M
 kept-value-spec = tie.close (tie.spec mul-result element-copy-out-result returns returns-2)

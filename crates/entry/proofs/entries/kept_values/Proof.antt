@@ -14,7 +14,7 @@ abbrev μ-loop : tie.MeasureT-loop
 μ-loop set n values₀ i₀ values i = 16 - i
 
 loop-holds : tie.Need-loop-holds Inv-loop μ-loop
-loop-holds c = agreed-none nought (keptValue (c .args .set) (c .args .n)) 16 _ refl
+loop-holds c = agreed-none nought _ 16 _ refl
 
 kept-value-requires : tie.Need-kept-value-requires Inv-loop μ-loop
 kept-value-requires c κs = omega arith
@@ -33,15 +33,11 @@ loop-less c = omega arith
 
 loop-again : tie.Need-loop-again Inv-loop μ-loop
 loop-again c =
-    let a = c .before .before .before .args in
     let l = c .before .before .loop in
-    agreed-set nought (keptValue (a .set) (a .n)) 16 (l .values) (l .i) (c .kept-value .result) (omega arith) (c .kept-value .ensures) (l .inv)
+    agreed-set nought _ 16 (l .values) (l .i) (c .kept-value .result) (omega arith) (c .kept-value .ensures) (l .inv)
 
 returns : tie.Need-returns Inv-loop μ-loop
-returns c =
-    let a = c .before .before .args in
-    let l = c .before .loop in
-    agreed-all nought (keptValue (a .set) (a .n)) 16 (l .values) (l .i) (omega arith) (l .inv)
+returns c = agreed-all nought _ 16 (c .before .loop .values) (c .before .loop .i) (omega arith) (c .before .loop .inv)
 
 pub kept-values-spec : {M : Type 1} → statement M
 kept-values-spec =

@@ -16,7 +16,7 @@ abbrev μ-loop : tie.MeasureT-loop
 μ-loop s t i₀ i = length s - i
 
 returns : tie.Need-returns Inv-loop μ-loop
-returns c = text-length (c .before .args .s .now) (c .before .args .t .now) (c .if1 .taken)
+returns c = text-length _ _ (c .if1 .taken)
 
 loop-holds : tie.Need-loop-holds Inv-loop μ-loop
 loop-holds c = (omega arith, all-none _)
@@ -30,8 +30,7 @@ shared-slice-read-if2-2 c = omega arith
 returns-2 : tie.Need-returns-2 Inv-loop μ-loop
 returns-2 c =
     let b = c .before .before .before .before in
-    let a = b .before .before .args in
-    text-other (a .s .now) (a .t .now) (b .loop .i) (omega arith) (c .if2 .taken)
+    text-other (b .before .before .args .s .now) (b .before .before .args .t .now) (b .loop .i) (omega arith) (c .if2 .taken)
 
 add-i : tie.Need-add-i Inv-loop μ-loop
 add-i c = omega arith
@@ -41,15 +40,12 @@ loop-less c = omega arith
 
 loop-again : tie.Need-loop-again Inv-loop μ-loop
 loop-again c =
-    let b = c .before .before .before .before in
-    let a = b .before .before .args in
-    (omega arith, text-more (a .s .now) (a .t .now) (b .loop .i) (c .if2 .left) (b .loop .inv .1))
+    let l = c .before .before .before .before .loop in
+    let a = c .before .before .before .before .before .before .args in
+    (omega arith, text-more (a .s .now) (a .t .now) (l .i) (c .if2 .left) (l .inv .1))
 
 returns-3 : tie.Need-returns-3 Inv-loop μ-loop
-returns-3 c =
-    let b = c .before in
-    let a = b .before .before .args in
-    text-all (a .s .now) (a .t .now) (b .loop .i) (b .before .if1 .left) (omega arith) (b .loop .inv .1)
+returns-3 c = text-all _ (c .before .before .before .args .t .now) (c .before .loop .i) (c .before .before .if1 .left) (omega arith) (c .before .loop .inv .1)
 
 pub same-text-spec : {M : Type 1} → statement M
 same-text-spec =

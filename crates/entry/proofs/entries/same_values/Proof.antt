@@ -6,7 +6,7 @@ use native.Mathlib.Omega.{arith}
 use borrow.Author.Needs.{needs}
 use borrow.Author.Tests.{not-true, not-false}
 use Rattle.laws.proofs.Ranges.{all-none, all-more, all-fails}
-use Rattle.entry.specs.Entries.{valueOf, sameValue, sameValues}
+use Rattle.entry.specs.Entries.{sameValues}
 use Rattle.entry.proofs.entries.same_values.Statement.{statement}
 use Rattle.entry.proofs.entries.same_values.Tie as tie
 
@@ -39,8 +39,7 @@ returns : tie.Need-returns Inv-loop μ-loop
 unfolding sameValues
 returns c =
     let b = c .before .before .before .before .before in
-    let a = b .before .args in
-    sym (all-fails (λ i. sameValue (valueOf (a .t1) i) (valueOf (a .t2) i)) (a .n) (b .loop .i) (omega arith) (sym (c .before .same-tenths .ensures) ∙ not-true (c .before .same-tenths .result) (c .if1 .taken)))
+    sym (all-fails _ (b .before .args .n) (b .loop .i) (omega arith) (sym (c .before .same-tenths .ensures) ∙ not-true (c .before .same-tenths .result) (c .if1 .taken)))
 
 add-i : tie.Need-add-i Inv-loop μ-loop
 add-i c = omega arith
@@ -51,16 +50,13 @@ loop-less c = omega arith
 loop-again : tie.Need-loop-again Inv-loop μ-loop
 unfolding sameValues
 loop-again c =
-    let b = c .before .before .before .before .before in
-    let a = b .before .args in
-    (omega arith, all-more (λ i. sameValue (valueOf (a .t1) i) (valueOf (a .t2) i)) (b .loop .i) (b .loop .inv .1) (sym (c .before .same-tenths .ensures) ∙ not-false (c .before .same-tenths .result) (c .if1 .left)))
+    (omega arith, all-more _ _ (c .before .before .before .before .before .loop .inv .1) (sym (c .before .same-tenths .ensures) ∙ not-false (c .before .same-tenths .result) (c .if1 .left)))
 
 returns-2 : tie.Need-returns-2 Inv-loop μ-loop
 returns-2 c =
-    let b = c .before in
-    let a = b .before .args in
-    let e : b .loop .i ≡ a .n = omega arith in
-    sym (ap (λ (i : ℕ). sameValues i (a .t1) (a .t2)) (sym e) ∙ b .loop .inv .1)
+    let a = c .before .before .args in
+    let e : c .before .loop .i ≡ a .n = omega arith in
+    sym (ap (λ (i : ℕ). sameValues i (a .t1) (a .t2)) (sym e) ∙ c .before .loop .inv .1)
 
 pub same-values-spec : {M : Type 1} → statement M
 same-values-spec =

@@ -15,7 +15,7 @@ abbrev μ-loop : tie.MeasureT-loop
 μ-loop customer key sum₀ i₀ sum i = length key - i
 
 loop-holds : tie.Need-loop-holds Inv-loop μ-loop
-loop-holds c = (omega arith, omega arith, word-none (c .args .customer) (c .args .key .now))
+loop-holds c = (omega arith, omega arith, word-none _ _)
 
 mul-sum : tie.Need-mul-sum Inv-loop μ-loop
 mul-sum c = omega arith
@@ -36,18 +36,16 @@ loop-less : tie.Need-loop-less Inv-loop μ-loop
 loop-less c = omega arith
 
 loop-again : tie.Need-loop-again Inv-loop μ-loop
-loop-again c =
-    let l = c .before .before in
-    (omega arith, omega arith, word-more (l .before .args .customer) (l .before .args .key .now) (l .loop .i) (l .loop .sum) (l .loop .inv .2))
+loop-again c = (omega arith, omega arith, word-more _ _ _ _ (c .before .before .loop .inv .2))
 
 cast-result : tie.Need-cast-result Inv-loop μ-loop
 cast-result c = omega arith
 
 returns : tie.Need-returns Inv-loop μ-loop
 returns c =
-    let l = c .before in
-    let e : l .loop .i ≡ length (l .before .args .key .now) = omega arith in
-    l .loop .inv .2 ∙ ap (wordTo (l .before .args .customer) (l .before .args .key .now)) e
+    let a = c .before .before .args in
+    let e : c .before .loop .i ≡ length (a .key .now) = omega arith in
+    c .before .loop .inv .2 ∙ ap (wordTo (a .customer) (a .key .now)) e
 
 pub word-spec : {M : Type 1} → statement M
 word-spec =

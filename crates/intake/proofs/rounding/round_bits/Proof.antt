@@ -4,25 +4,19 @@ use mathlib.Core.Bool.{true, false}
 use mathlib.Core.Path.{_∙_}
 use native.Mathlib.Omega.{arith}
 use borrow.Author.Tests.{le-leb, lt-leb}
-use mir.Syntax.{w32}
-use mir.Val.{toZ, ofZ}
 use Rattle.quantity.proofs.Rim.{back}
 use Rattle.intake.proofs.Fields.{bits-not-finite, bits-far, bits-tiny, bits-middle}
 use Rattle.intake.proofs.rounding.round_bits.Statement.{statement}
 use Rattle.intake.proofs.rounding.round_bits.Tie as tie
 
 returns : tie.Need-returns
-returns c = bits-not-finite (c .before .args .scale) (c .before .args .bits) (c .if1 .taken)
+returns c = bits-not-finite _ _ (c .if1 .taken)
 
 returns-2 : tie.Need-returns-2
-returns-2 c =
-    let a = c .before .before .args in
-    bits-far (a .scale) (a .bits) (c .if2 .taken) (omega (arith, c .before .if1 .left))
+returns-2 c = bits-far _ (c .before .before .args .bits) (c .if2 .taken) (omega (arith, c .before .if1 .left))
 
 returns-3 : tie.Need-returns-3
-returns-3 c =
-    let a = c .before .before .before .args in
-    bits-tiny (a .scale) (a .bits) (omega arith) (c .if3 .taken)
+returns-3 c = bits-tiny _ (c .before .before .before .args .bits) (omega arith) (c .if3 .taken)
 
 add-digits : tie.Need-add-digits
 add-digits c = search needs
@@ -50,17 +44,13 @@ units-requires-2 c κs = search needs
 
 returns-4 : tie.Need-returns-4
 returns-4 c =
-    let a = c .before .before .before .before .before .args in
-    bits-middle (a .scale) (a .bits) false (toZ w32 (ofZ w32 (c .units .result)))
-    (lt-leb 2147483648 (a .bits) (omega arith)) (omega arith) (omega arith)
-    (back (c .units .result) (c .units .ok) ∙ c .units .ensures)
+    let bits = c .before .before .before .before .before .args .bits in
+    bits-middle _ bits false _ (lt-leb 2147483648 bits (omega arith)) (omega arith) (omega arith) (back (c .units .result) (c .units .ok) ∙ c .units .ensures)
 
 returns-5 : tie.Need-returns-5
 returns-5 c =
-    let a = c .before .before .before .before .before .args in
-    bits-middle (a .scale) (a .bits) true (toZ w32 (ofZ w32 (c .units2 .result)))
-    (le-leb 2147483648 (a .bits) (omega arith)) (omega arith) (omega arith)
-    (back (c .units2 .result) (c .units2 .ok) ∙ c .units2 .ensures)
+    let bits = c .before .before .before .before .before .args .bits in
+    bits-middle _ bits true _ (le-leb 2147483648 bits (omega arith)) (omega arith) (omega arith) (back (c .units2 .result) (c .units2 .ok) ∙ c .units2 .ensures)
 
 pub round-bits-spec : {M : Type 1} → statement M
 round-bits-spec =

@@ -26,20 +26,13 @@ settled : (c : tie.After-known-told2) → let a = c .before .before .before .bef
 settled c = sym (c .before .before .before .owed-by .ensures) ∙ c .before .total .given .1
 
 without-requires : tie.Need-without-requires
-without-requires c κs =
-    let a = c .before .before .before .before .args in
-    sound-most (a .register) (total-sound (a .register) (a .customer) (c .before .total .given .0 .0) (settled c))
+without-requires c κs = sound-most _ (total-sound _ _ _ (settled c))
 
 returns : tie.Need-returns
-returns c =
-    let a = c .before .before .before .before .args in
-    (sym (refused c), sym (closed-refused (a .register) (a .customer) (c .before .refusal .given .0 .0) (refused c)))
+returns c = (sym (refused c), sym (closed-refused _ _ _ (refused c)))
 
 returns-2 : tie.Need-returns-2
-returns-2 c =
-    let w = c .before in
-    let a = w .before .before .before .before .args in
-    (sym (settled w), c .without .ensures ∙ sym (closed-total (a .register) (a .customer) (w .before .total .given .0 .0) (settled w)))
+returns-2 c = (sym (settled (c .before)), c .without .ensures ∙ sym (closed-total _ _ _ (settled (c .before))))
 
 pub close-for-spec : {M : Type 1} → statement M
 close-for-spec =

@@ -8,14 +8,10 @@ no-entry-requires : tie.Need-no-entry-requires
 no-entry-requires c κs = search needs
 
 returns : tie.Need-returns
-returns c =
-    let a = c .before .before .before .args in
-    rw (eq-eqb (a .e .customer) (a .customer) (c .before .if1 .taken)) (c .no-entry .ensures)
+returns c = rw (eq-eqb _ _ (c .before .if1 .taken)) (c .no-entry .ensures)
 
 returns-2 : tie.Need-returns-2
-returns-2 c =
-    let a = c .before .before .args in
-    rw (ne-eqb (a .e .customer) (a .customer) (c .if1 .left))
+returns-2 c = rw (ne-eqb _ _ (c .if1 .left))
 
 pub spared-spec : {M : Type 1} → statement M
 spared-spec = tie.close (tie.spec no-entry-requires returns returns-2)

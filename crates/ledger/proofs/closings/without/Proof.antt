@@ -1,6 +1,6 @@
 -- `ledger::closings::without` meets its contract. The invariant: the places passed were gone through, and the first that is free
 -- comes after the others among them. Assumes nothing.
-use Prim.Native.Nat.{_+_, _-_, _≤_}
+use Prim.Native.Nat.{ℕ, _+_, _-_, _≤_}
 use mathlib.Core.Path.{_≡_}
 use native.Mathlib.Omega.{arith}
 use borrow.Author.Needs.{needs}
@@ -21,9 +21,7 @@ no-entry-requires : tie.Need-no-entry-requires Inv-loop μ-loop
 no-entry-requires c κs = search needs
 
 loop-holds : tie.Need-loop-holds Inv-loop μ-loop
-loop-holds c =
-    let a = c .before .before .args in
-    (omega arith, others-none (a .customer) (a .t1), moved-none (a .customer) (a .t1))
+loop-holds c = (omega arith, others-none _ (c .before .before .args .t1), moved-none _ _)
 
 mul-e : tie.Need-mul-e Inv-loop μ-loop
 mul-e c = omega arith
@@ -40,12 +38,13 @@ array-set-from-entries c = omega arith
 spared-requires : tie.Need-spared-requires Inv-loop μ-loop
 spared-requires c κs = search needs
 
--- the first free place is not past the one that is gone through
+-- the others among the first n places take no more than n
+taken : (b : tie.At-loop Inv-loop μ-loop) (n : ℕ) → let a = b .before .before .before .args in length (others (a .customer) (a .t1) n) ≤ n
+taken b n = others-most _ _ n
+
+-- so the first free place is not past the one that is gone through
 within : (c : tie.After-spared Inv-loop μ-loop) → c .before .before .before .loop .free ≤ c .before .before .before .loop .i
-within c =
-    let l = c .before .before .before in
-    let a = l .before .before .before .args in
-    omega (arith, others-most (a .customer) (a .t1) (l .loop .i))
+within c = let b = c .before .before .before in omega (arith, taken b (b .loop .i))
 
 mul-entries-2 : tie.Need-mul-entries-2 Inv-loop μ-loop
 mul-entries-2 c = omega (arith, within c)
@@ -58,18 +57,12 @@ places-for-requires c κs = search needs
 
 -- the next free place
 next : (c : tie.After-places-for Inv-loop μ-loop)
-    → let l = c .before .before .before .before in
-    let a = l .before .before .before .args in l .loop .free + c .places-for .result ≡ length (others (a .customer) (a .t1) (l .loop .i + 1))
-next c =
-    let l = c .before .before .before .before in
-    let a = l .before .before .before .args in
-    others-more (a .customer) (a .t1) (l .loop .i) (l .loop .free) (c .places-for .result) (l .loop .inv .1) (c .places-for .ensures)
+    → let b = c .before .before .before .before in
+    let a = b .before .before .before .args in b .loop .free + c .places-for .result ≡ length (others (a .customer) (a .t1) (b .loop .i + 1))
+next c = others-more _ _ _ _ _ (c .before .before .before .before .loop .inv .1) (c .places-for .ensures)
 
 add-free : tie.Need-add-free Inv-loop μ-loop
-add-free c =
-    let l = c .before .before .before .before in
-    let a = l .before .before .before .args in
-    omega (arith, next c, others-most (a .customer) (a .t1) (l .loop .i + 1))
+add-free c = let b = c .before .before .before .before in omega (arith, next c, taken b (b .loop .i + 1))
 
 add-i : tie.Need-add-i Inv-loop μ-loop
 add-i c = omega arith
@@ -79,21 +72,15 @@ loop-less c = omega arith
 
 loop-again : tie.Need-loop-again Inv-loop μ-loop
 loop-again c =
-    let l = c .before .before .before .before in
-    let n = l .before .before in
-    let s = n .before in
-    let full = simp length-map at (s .good .0 .1 .1 .0 .1 .0 .1) in (
-      omega arith,
-      next c,
-      moved-more (s .args .customer) (s .args .t1) (l .loop .i) (omega arith) (l .loop .free) (l .loop .entries) (n .no-entry .result) (c .before .spared .result)
-          (l .loop .inv .1) (l .loop .inv .2) (n .no-entry .ensures) (c .before .spared .ensures),
-    )
+    let l = c .before .before .before .before .loop in
+    let n = c .before .before .before .before .before .before in
+    let full = simp length-map at (n .before .good .0 .1 .1 .0 .1 .0 .1) in
+    (omega arith, next c, moved-more _ (n .before .args .t1) (l .i) (omega arith) _ _ _ _ (l .inv .1) (l .inv .2) (n .no-entry .ensures) (c .before .spared .ensures))
 
 returns : tie.Need-returns Inv-loop μ-loop
 returns c =
-    let l = c .before in
-    let a = l .before .before .before .args in
-    moved-all (a .customer) (a .t1) (l .loop .i) (l .loop .free) (l .loop .entries) (omega arith) (l .loop .inv .1) (l .loop .inv .2)
+    let b = c .before in
+    moved-all _ (b .before .before .before .args .t1) (b .loop .i) _ _ (omega arith) (b .loop .inv .1) (b .loop .inv .2)
 
 pub without-spec : {M : Type 1} → statement M
 without-spec =

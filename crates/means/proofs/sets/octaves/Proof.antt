@@ -13,7 +13,7 @@ refused-list-requires : tie.Need-refused-list-requires
 refused-list-requires c κs = search needs
 
 returns : tie.Need-returns
-returns c = c .refused-list .ensures ∙ octaves-count (c .before .before .before .args .set) (c .before .if1 .taken)
+returns c = c .refused-list .ensures ∙ octaves-count _ (c .before .if1 .taken)
 
 all-in-range-requires : tie.Need-all-in-range-requires
 all-in-range-requires c κs = search needs
@@ -23,11 +23,12 @@ refused-list-requires-2 c κs = search needs
 
 returns-2 : tie.Need-returns-2
 returns-2 c =
-    c .refused-list2 .ensures
-    ∙ octaves-range (c .before .before .before .before .before .args .set) (c .before .before .before .if1 .left) (sym (c .before .before .all-in-range .ensures) ∙ not-true (c .before .before .all-in-range .result) (c .before .if2 .taken))
+    let t = c .before .before in
+    c .refused-list2 .ensures ∙ octaves-range _ (t .before .if1 .left) (sym (t .all-in-range .ensures) ∙ not-true (t .all-in-range .result) (c .before .if2 .taken))
 
-within : (c : tie.Else2) → accepted (c .before .before .before .before .args .set) 16 ≡ true
-within c = sym (c .before .all-in-range .ensures) ∙ not-false (c .before .all-in-range .result) (c .if2 .left)
+-- sixteen bands, all in range
+within : (c : tie.Else2) → let s = c .before .before .before .before .args .set in (s .len ≡ 16) × (accepted s 16 ≡ true)
+within c = (c .before .before .if1 .left, sym (c .before .all-in-range .ensures) ∙ not-false (c .before .all-in-range .result) (c .if2 .left))
 
 widened-requires : tie.Need-widened-requires
 widened-requires c κs = search needs
@@ -41,16 +42,13 @@ cast-means c = search needs
 means-requires : tie.Need-means-requires
 means-requires c κs =
     let w = c .before .before .before in
-    let e = w .before .before in
-    let b = e .before .before .before .before in
-    (omega arith, ((λ j h. omega arith), ((λ i h. widened-range (b .args .set) (w .widened .result) (within e) (w .widened .ensures .0) (w .widened .ensures .1) i), c .before .before .scaled-powers .ensures)))
+    (omega arith, ((λ j h. omega arith), ((λ i h. widened-range _ (w .widened .result) (within (w .before .before) .1) (w .widened .ensures .0) (w .widened .ensures .1) i), c .before .before .scaled-powers .ensures)))
 
 returns-3 : tie.Need-returns-3
 returns-3 c =
     let w = c .before .before .before .before in
-    let e = w .before .before in
-    let b = e .before .before .before .before in
-    octaves-made (b .args .set) (w .widened .result) (c .means .result) (e .before .before .if1 .left) (within e) (w .widened .ensures .0) (c .means .ensures)
+    let h = within (w .before .before) in
+    octaves-made _ (w .widened .result) _ (h .0) (h .1) (w .widened .ensures .0) (c .means .ensures)
 
 pub octaves-spec : {M : Type 1} → statement M
 octaves-spec =

@@ -1,8 +1,9 @@
 -- `means::sets::specimens` meets its contract: the count, then the readings, then sixteen means. Assumes nothing.
 use borrow.Author.Needs.{needs}
-use mathlib.Core.Path.{_∙_}
+use mathlib.Core.Path.{_≡_, _∙_}
 use native.Mathlib.Omega.{arith}
 use Rattle.means.proofs.Thirds.{specimens-count, specimens-refused, specimens-made, taken-values}
+use Rattle.quantity.specs.declared.refusals.Outcome.the-variants.{Accepted}
 use Rattle.means.proofs.sets.specimens.Statement.{statement}
 use Rattle.means.proofs.sets.specimens.Tie as tie
 
@@ -10,9 +11,7 @@ refused-list-requires : tie.Need-refused-list-requires
 refused-list-requires c κs = search needs
 
 returns : tie.Need-returns
-returns c =
-    let a = c .before .before .args in
-    c .refused-list .ensures ∙ specimens-count (a .readings) (a .len) (c .before .if1 .taken)
+returns c = c .refused-list .ensures ∙ specimens-count (c .before .before .args .readings) _ (c .before .if1 .taken)
 
 take-all-requires : tie.Need-take-all-requires
 take-all-requires c κs = search needs
@@ -29,26 +28,28 @@ enum-told c = search needs
 scaled-powers-requires : tie.Need-scaled-powers-requires
 scaled-powers-requires c κs = search needs
 
+-- the readings that were asked for, and where all of them were taken
+abbrev taken : tie.After-powers → tie.After-take-all
+taken c = c .before .before .before .before .before
+
+accepted : (c : tie.After-powers) → taken c .take-all .result .outcome ≡ Accepted
+accepted c = c .before .before .before .enum-told .given .1
+
 means-requires : tie.Need-means-requires
 means-requires c κs =
-    let t = c .before .before .before in
-    let r = t .before .before in
-    let a = r .before .before .args in
-    (omega arith, ((λ j h. omega arith), (taken-values (a .readings) (a .len) (r .take-all .result) (r .before .if1 .left) (r .take-all .ensures) (t .enum-told .given .1), c .before .scaled-powers .ensures)))
+    let r = taken c in
+    (omega arith, ((λ j h. omega arith), (taken-values (r .before .before .args .readings) _ (r .take-all .result) (r .before .if1 .left) (r .take-all .ensures) (accepted c), c .before .scaled-powers .ensures)))
 
 returns-2 : tie.Need-returns-2
 returns-2 c =
     let r = c .before .before .before .before in
-    let a = r .before .before .args in
-    let w = c .before .before .outcome .given in
-    c .refused-list2 .ensures ∙ specimens-refused (a .readings) (a .len) (r .take-all .result) (r .before .if1 .left) (r .take-all .ensures) (w .0 .0) (w .1)
+    c .refused-list2 .ensures
+    ∙ specimens-refused (r .before .before .args .readings) _ (r .take-all .result) (r .before .if1 .left) (r .take-all .ensures) _ (c .before .before .outcome .given .1)
 
 returns-3 : tie.Need-returns-3
 returns-3 c =
-    let t = c .before .before .before .before in
-    let r = t .before .before in
-    let a = r .before .before .args in
-    specimens-made (a .readings) (a .len) (r .take-all .result) (r .before .if1 .left) (r .take-all .ensures) (c .means .result) (t .enum-told .given .1) (c .means .ensures)
+    let r = taken (c .before) in
+    specimens-made (r .before .before .args .readings) _ (r .take-all .result) (r .before .if1 .left) (r .take-all .ensures) _ (accepted (c .before)) (c .means .ensures)
 
 pub specimens-spec : {M : Type 1} → statement M
 specimens-spec =

@@ -38,16 +38,15 @@ loop-less c = omega arith
 
 loop-again : tie.Need-loop-again Inv-loop μ-loop
 loop-again c =
-    let l = c .before .before in
-    let v = l .before .args .t1 in
-    (omega arith, filled-more (λ i. getD v i nought) 48 (l .loop .out) (l .loop .i) (getD v (l .loop .i) nought) (omega arith) refl (l .loop .inv .1))
+    let l = c .before .before .loop in
+    (omega arith, filled-more (λ i. getD (c .before .before .before .args .t1) i nought) 48 (l .out) (l .i) _ (omega arith) refl (l .inv .1))
 
 returns : tie.Need-returns Inv-loop μ-loop
 returns c =
-    let l = c .before in
-    let e : l .loop .i ≡ 16 = omega arith in
-    let w = subst (Filled (λ i. getD (l .before .args .t1) i nought) 48 (l .loop .out)) e (l .loop .inv .1) in
-    (filled-same (l .before .args .t1) 48 (l .loop .out) 16 (l .before .good .0 .1 .0 .1) w, w .rest)
+    let b = c .before in
+    let e : b .loop .i ≡ 16 = omega arith in
+    let w = subst (Filled (λ i. getD (b .before .args .t1) i nought) 48 (b .loop .out)) e (b .loop .inv .1) in
+    (filled-same (b .before .args .t1) 48 (b .loop .out) 16 (b .before .good .0 .1 .0 .1) w, w .rest)
 
 pub widened-spec : {M : Type 1} → statement M
 widened-spec =

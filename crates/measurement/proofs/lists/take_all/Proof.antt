@@ -15,7 +15,7 @@ abbrev μ-loop : tie.MeasureT-loop
 μ-loop count readings values₀ marks₀ i₀ values marks i = count - i
 
 loop-holds : tie.Need-loop-holds Inv-loop μ-loop
-loop-holds c = taking-none (c .args .t1) (c .args .count)
+loop-holds c = taking-none _ _
 
 mul-reading : tie.Need-mul-reading Inv-loop μ-loop
 mul-reading c = omega arith
@@ -41,8 +41,7 @@ weight-requires c κs = omega arith
 add-marks : tie.Need-add-marks Inv-loop μ-loop
 add-marks c =
     let l = c .before .before .before .before .before .before .before .loop in
-    let a = c .before .before .before .before .before .before .before .before .args in
-    omega (arith, taking-marks (a .t1) (a .count) (l .values) (l .marks) (l .i) (omega arith) (l .inv), c .weight .ensures, weight-small (c .before .before .taken .given .0 .1 .0) (l .i) (omega arith))
+    omega (arith, taking-marks _ _ (l .values) (l .marks) (l .i) (omega arith) (l .inv), c .weight .ensures, weight-small (c .before .before .taken .given .0 .1 .0) (l .i) (omega arith))
 
 enum-known-taken-2 : tie.Need-enum-known-taken-2 Inv-loop μ-loop
 enum-known-taken-2 c = search needs
@@ -52,13 +51,10 @@ refused-all-requires c κs = search needs
 
 returns : tie.Need-returns Inv-loop μ-loop
 returns c =
-    let l = c .before .before .before .before .before .before .before .loop in
-    let a = c .before .before .before .before .before .before .before .before .args in
-    let w = c .before .before .taken2 .given in
+    let t = c .before .before .before .before in
+    let b = t .before .before .before in
     c .refused-all .ensures
-    ∙ refused-all (a .t1) (a .count) (w .0 .0)
-    (refused-at (a .t1) (a .count) (l .values) (l .marks) (l .i) (w .0 .0) (omega arith) (l .inv)
-    (sym (c .before .before .before .before .take-reading .ensures) ∙ w .1))
+    ∙ refused-all _ _ _ (refused-at (b .before .args .t1) (b .before .args .count) _ _ (b .loop .i) _ (omega arith) (b .loop .inv) (sym (t .take-reading .ensures) ∙ c .before .before .taken2 .given .1))
 
 add-i : tie.Need-add-i Inv-loop μ-loop
 add-i c = omega arith
@@ -68,17 +64,12 @@ loop-less c = omega arith
 
 loop-again : tie.Need-loop-again Inv-loop μ-loop
 loop-again c =
-    let l = c .before .before .before .before .before .before .before .loop in
-    let a = c .before .before .before .before .before .before .before .before .args in
-    let w = c .before .before .taken .given in
-    taking-more (a .t1) (a .count) (l .values) (l .marks) (l .i) (w .0 .0) (w .0 .1 .0) (c .weight .result) (omega arith) (omega arith) (l .inv)
-    (sym (c .before .before .before .before .take-reading .ensures) ∙ w .1) (c .weight .ensures)
+    let w = c .before .before in
+    let b = w .before .before .before .before .before in
+    taking-more (b .before .args .t1) (b .before .args .count) _ _ (b .loop .i) _ _ _ (omega arith) (omega arith) (b .loop .inv) (sym (w .before .before .take-reading .ensures) ∙ w .taken .given .1) (c .weight .ensures)
 
 returns-2 : tie.Need-returns-2 Inv-loop μ-loop
-returns-2 c =
-    let l = c .before .loop in
-    let a = c .before .before .args in
-    taken-all (a .t1) (a .count) (l .values) (l .marks) (l .i) (omega arith) (l .inv)
+returns-2 c = taken-all _ (c .before .before .args .count) _ _ (c .before .loop .i) (omega arith) (c .before .loop .inv)
 
 pub take-all-spec : {M : Type 1} → statement M
 take-all-spec =

@@ -19,29 +19,22 @@ unfolding floors
 add-less c = omega (arith, floor-most (c .args .i) (omega arith))
 
 above-requires : tie.Need-above-requires
-above-requires c κs =
-    let b = c .before in
-    band-asks (b .args .improvement .0) 200 (b .pre .1) (omega arith) (omega arith)
+above-requires c κs = band-asks _ 200 (c .before .pre .1) (omega arith) (omega arith)
 
 -- the improvement, counted
 counted : (c : tie.After-above) → Band 200 (c .before .before .args .improvement .0) (c .above .result)
-counted c =
-    let b = c .before .before in
-    band-gives (b .args .improvement .0) 200 (c .above .result) (b .pre .1) (omega arith) (omega arith) (c .above .ensures)
+counted c = band-gives _ 200 _ (c .before .before .pre .1) (omega arith) (omega arith) (c .above .ensures)
 
 less-requires : tie.Need-less-requires
 unfolding floors
-less-requires c κs =
-    let b = c .before .before in
-    omega (arith, floor-most (b .args .i) (omega arith), counted c .most)
+less-requires c κs = omega (arith, floor-most (c .before .before .args .i) (omega arith), counted c .most)
 
 returns : tie.Need-returns
 unfolding floors
 returns c =
-    let b = c .before .before .before in
     back (c .less .result) (c .less .ok)
     ∙ c .less .ensures
-    ∙ derives (b .args .i) (b .args .improvement .0) (c .before .above .result) (counted (c .before) .up)
+    ∙ derives (c .before .before .before .args .i) (c .before .before .before .args .improvement .0) _ (counted (c .before) .up)
 
 pub derived-spec : {M : Type 1} → statement M
 derived-spec =

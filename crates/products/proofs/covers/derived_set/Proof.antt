@@ -19,9 +19,7 @@ abbrev μ-loop : tie.MeasureT-loop
 μ-loop set values₀ i₀ values i = 16 - i
 
 loop-holds : tie.Need-loop-holds Inv-loop μ-loop
-loop-holds c =
-    let s = c .args .t1 in
-    (omega arith, filled-none (λ j. tenths (floorAt j -ℤ bandOf s j)) 16)
+loop-holds c = (omega arith, filled-none _ 16)
 
 mul-improvement : tie.Need-mul-improvement Inv-loop μ-loop
 mul-improvement c = omega arith
@@ -30,9 +28,7 @@ element-copy-out-improvement : tie.Need-element-copy-out-improvement Inv-loop μ
 element-copy-out-improvement c = omega arith
 
 derived-requires : tie.Need-derived-requires Inv-loop μ-loop
-derived-requires c κs =
-    let l = c .before .before in
-    (omega arith, band-in (l .before .args .t1) 16 (l .before .pre) (l .loop .i) (omega arith))
+derived-requires c κs = (omega arith, band-in _ 16 (c .before .before .before .pre) (c .before .before .loop .i) (omega arith))
 
 mul-values : tie.Need-mul-values Inv-loop μ-loop
 mul-values c = omega arith
@@ -48,15 +44,13 @@ loop-less c = omega arith
 
 loop-again : tie.Need-loop-again Inv-loop μ-loop
 loop-again c =
-    let l = c .before .before .before in
-    let s = l .before .args .t1 in
-    (omega arith, filled-more (λ j. tenths (floorAt j -ℤ bandOf s j)) 16 (l .loop .values) (l .loop .i) (c .derived .result) (omega arith) (ap tenths (c .derived .ensures)) (l .loop .inv .1))
+    let l = c .before .before .before .loop in
+    (omega arith, filled-more _ 16 (l .values) (l .i) (c .derived .result) (omega arith) (ap tenths (c .derived .ensures)) (l .inv .1))
 
 returns : tie.Need-returns Inv-loop μ-loop
 returns c =
-    let l = c .before in
-    let s = l .before .args .t1 in
-    derived-all s (l .loop .values) (filled-whole (λ j. tenths (floorAt j -ℤ bandOf s j)) 16 (l .loop .values) (l .loop .i) (omega arith) (l .loop .inv .1))
+    let b = c .before in
+    derived-all (b .before .args .t1) (b .loop .values) (filled-whole _ 16 (b .loop .values) (b .loop .i) (omega arith) (b .loop .inv .1))
 
 pub derived-set-spec : {M : Type 1} → statement M
 derived-set-spec =

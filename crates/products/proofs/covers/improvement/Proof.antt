@@ -7,26 +7,23 @@ use Rattle.products.proofs.Signed.{rating-fits, rating-is, ten-more, te
 use Rattle.products.proofs.covers.improvement.Statement.{statement}
 use Rattle.products.proofs.covers.improvement.Tie as tie
 
+-- how it began
+abbrev start : tie.After-struct-told2 → tie.Start
+start c = c .before .before .before .before .before .before
+
 sub-t4 : tie.Need-sub-t4
-sub-t4 c =
-    let b = c .before .before .before .before in
-    rating-fits (b .args .sheet .rating .0) (b .pre .rating)
+sub-t4 c = rating-fits (c .before .before .before .before .args .sheet .rating .0) (c .before .before .before .before .pre .rating)
 
 add-t6 : tie.Need-add-t6
-add-t6 c =
-    let b = c .before .before .before .before .before .before in
-    ten-more (b .args .sheet .first .0) (b .pre .first)
+add-t6 c = ten-more (start c .args .sheet .first .0) (start c .pre .first)
 
 sub-t7 : tie.Need-sub-t7
-sub-t7 c =
-    let b = c .before .before .before .before .before .before in
-    term-fits (b .args .sheet .first .0) (b .pre .first)
+sub-t7 c = term-fits (start c .args .sheet .first .0) (start c .pre .first)
 
 returns : tie.Need-returns
 returns c =
-    let b = c .before .before .before .before .before .before in
-    let s = b .args .sheet in
-    ap₂ (λ (z w : ℤ). Improvement (decibels z) (decibels w) (s .limit)) (rating-is (s .rating .0) (b .pre .rating)) (term-is (s .first .0) (b .pre .first))
+    let s = start c .args .sheet in
+    ap₂ (λ (z w : ℤ). Improvement (decibels z) (decibels w) (s .limit)) (rating-is (s .rating .0) (start c .pre .rating)) (term-is (s .first .0) (start c .pre .first))
 
 pub improvement-spec : {M : Type 1} → statement M
 improvement-spec = tie.close (tie.spec sub-t4 add-t6 sub-t7 returns)

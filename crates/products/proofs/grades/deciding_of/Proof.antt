@@ -16,38 +16,39 @@ enum-told c = search needs
 second-of-requires : tie.Need-second-of-requires
 second-of-requires c κs = search needs
 
+-- the beginning, and that the second term is small
+abbrev start : tie.After-second-of → tie.Start
+start c = c .before .before .before .before
+
 ctr : (c : tie.After-second-of) → Small (c .second-of .result .0)
-ctr c = rw (c .second-of .ensures) (c .before .before .before .before .pre .second)
+ctr c = rw (c .second-of .ensures) (start c .pre .second)
 
 add-t8 : tie.Need-add-t8
 add-t8 c =
-    let s = c .before .before .before .before in
-    let b = s .before .before .before .before in
-    sum-fits (b .args .sheet .rating .0) (s .second-of .result .0) (b .pre .rating) (ctr s)
+    let t = c .before .before .before .before in
+    sum-fits (start t .args .sheet .rating .0) (t .second-of .result .0) (start t .pre .rating) (ctr t)
 
 enum-told-2 : tie.Need-enum-told-2
 enum-told-2 c = search needs
 
 add-t9 : tie.Need-add-t9
 add-t9 c =
-    let b = c .before .before .before .before .before .before .before .before in
-    sum-fits (b .args .sheet .rating .0) (b .args .sheet .first .0) (b .pre .rating) (b .pre .first)
+    let s = c .before .before .before .before .before .before .before .before in
+    sum-fits (s .args .sheet .rating .0) (s .args .sheet .first .0) (s .pre .rating) (s .pre .first)
 
 returns : tie.Need-returns
 returns c =
-    let s = c .before .before .before .before in
-    let b = s .before .before .before .before in
-    let sheet = b .args .sheet in
-    sum-is (sheet .rating .0) (s .second-of .result .0) (b .pre .rating) (ctr s)
-    ∙ ap (λ (z : ℤ). sheet .rating .0 +ℤ z) (s .second-of .ensures)
-    ∙ ap (λ (x : Side). decidingOf x sheet) (sym (s .before .enum-told .given .1))
+    let t = c .before .before .before .before in
+    let sheet = start t .args .sheet in
+    sum-is (sheet .rating .0) (t .second-of .result .0) (start t .pre .rating) (ctr t)
+    ∙ ap (λ (z : ℤ). sheet .rating .0 +ℤ z) (t .second-of .ensures)
+    ∙ ap (λ (x : Side). decidingOf x sheet) (sym (t .before .enum-told .given .1))
 
 returns-2 : tie.Need-returns-2
 returns-2 c =
     let b = c .before .before .before .before .before .before .before .before in
-    let sheet = b .args .sheet in
-    sum-is (sheet .rating .0) (sheet .first .0) (b .pre .rating) (b .pre .first)
-    ∙ ap (λ (x : Side). decidingOf x sheet) (sym (c .before .before .before .before .before .enum-told2 .given .1))
+    sum-is (b .args .sheet .rating .0) (b .args .sheet .first .0) (b .pre .rating) (b .pre .first)
+    ∙ ap (λ (x : Side). decidingOf x (b .args .sheet)) (sym (c .before .before .before .before .before .enum-told2 .given .1))
 
 pub deciding-of-spec : {M : Type 1} → statement M
 deciding-of-spec =

@@ -1,9 +1,12 @@
 -- `products::grades::grade_of` meets its contract: the specimens, then the rating of their means. Assumes nothing.
 use borrow.Author.Needs.{needs}
-use mathlib.Core.Path.{sym, _∙_}
+use mathlib.Core.Path.{_≡_, sym, _∙_}
 use Rattle.rating.specs.declared.kinds.Kind.the-variants.{A3}
 use Rattle.rating.proofs.Small.{rated-by}
 use Rattle.products.proofs.Gradings.{specimen-refused, mean-refused, mean-graded}
+use Rattle.quantity.specs.declared.refusals.Outcome.the-variants.{Accepted}
+use Rattle.rating.specs.declared.sheets.Rated.the-variants.{Rating}
+use Rattle.rating.specs.Sheets.{ratedOf}
 use Rattle.products.proofs.grades.grade_of.Statement.{statement}
 use Rattle.products.proofs.grades.grade_of.Tie as tie
 
@@ -22,36 +25,36 @@ rate-requires c κs = search needs
 enum-known-rated : tie.Need-enum-known-rated
 enum-known-rated c = search needs
 
+-- the means that were rated, and the sheet that they got
+abbrev taken : tie.After-rate → tie.After-specimens
+taken c = c .before .before .before .before
+
+accepted : (c : tie.After-rate) → taken c .specimens .result .outcome ≡ Accepted
+accepted c = c .before .before .enum-told .given .1
+
+sheeted : (c : tie.After-rated) → ratedOf A3 (taken (c .before .before) .specimens .result .set) ≡ Rating (c .rated .given .0 .0)
+sheeted c = sym (c .before .before .rate .ensures) ∙ c .rated .given .1
+
 sheet-grade-requires : tie.Need-sheet-grade-requires
-sheet-grade-requires c κs =
-    let w = c .before .rated .given in
-    rated-by A3 (c .before .before .before .before .before .before .before .specimens .result .set) (w .0 .0) (sym (c .before .before .before .rate .ensures) ∙ w .1) .small
+sheet-grade-requires c κs = rated-by A3 _ _ (sheeted (c .before)) .small
 
 enum-known-rated-2 : tie.Need-enum-known-rated-2
 enum-known-rated-2 c = search needs
 
 returns : tie.Need-returns
 returns c =
-    let t = c .before .before .before in
-    let a = t .before .args in
-    let w = c .before .outcome .given in
-    specimen-refused (a .readings) (a .len) (a .side) (t .specimens .result) (t .specimens .ensures) (w .0 .0) (w .1)
+    let t = c .before .before .before .specimens in
+    specimen-refused _ _ _ (t .result) (t .ensures) _ (c .before .outcome .given .1)
 
 returns-2 : tie.Need-returns-2
 returns-2 c =
-    let t = c .before .before .before .before .before .before .before .before in
-    let a = t .before .args in
-    let w = c .before .before .rated .given in
-    mean-graded (a .readings) (a .len) (a .side) (t .specimens .result) (t .specimens .ensures) (c .before .before .before .before .before .before .enum-told .given .1)
-    (w .0 .0) (c .sheet-grade .result) (sym (c .before .before .before .before .rate .ensures) ∙ w .1) (c .sheet-grade .ensures)
+    let r = c .before .before .before .before in
+    mean-graded _ _ _ _ (taken r .specimens .ensures) (accepted r) _ _ (sheeted (c .before .before)) (c .sheet-grade .ensures)
 
 returns-3 : tie.Need-returns-3
 returns-3 c =
-    let t = c .before .before .before .before .before .before .before in
-    let a = t .before .args in
-    let w = c .before .rated2 .given in
-    mean-refused (a .readings) (a .len) (a .side) (t .specimens .result) (t .specimens .ensures) (c .before .before .before .before .before .enum-told .given .1)
-    (w .0 .0) (sym (c .before .before .before .rate .ensures) ∙ w .1)
+    let r = c .before .before .before in
+    mean-refused _ _ _ _ (taken r .specimens .ensures) (accepted r) _ (sym (r .rate .ensures) ∙ c .before .rated2 .given .1)
 
 pub grade-of-spec : {M : Type 1} → statement M
 grade-of-spec =

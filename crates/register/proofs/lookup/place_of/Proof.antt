@@ -4,7 +4,6 @@ use Prim.Native.Nat.{_-_, _≤_}
 use mathlib.Core.Path.{sym, _∙_}
 use mathlib.Core.Logic.{⊎-elim}
 use native.Mathlib.Omega.{arith}
-use lib.ListN.{getD}
 use Rattle.register.proofs.Places.{Missed, missed-none, missed-more, missed-word, place-found, place-missed}
 use Rattle.register.proofs.lookup.place_of.Statement.{statement}
 use Rattle.register.proofs.lookup.place_of.Tie as tie
@@ -31,9 +30,7 @@ element-copy-out-kept : tie.Need-element-copy-out-kept Inv-loop μ-loop
 element-copy-out-kept c = omega arith
 
 same-key-requires : tie.Need-same-key-requires Inv-loop μ-loop
-same-key-requires c κs =
-    let l = c .before .before .before .before in
-    (l .before .pre .1 .0 (l .loop .i) (omega arith), l .before .pre .0 .1)
+same-key-requires c κs = let s = c .before .before .before .before .before in (s .pre .1 .0 _ (omega arith), s .pre .0 .1)
 
 returns : tie.Need-returns Inv-loop μ-loop
 returns c =
@@ -48,19 +45,18 @@ loop-less c = omega arith
 
 loop-again : tie.Need-loop-again Inv-loop μ-loop
 loop-again c =
-    let l = c .before .before .before in
-    let s = l .before in (
+    let b = c .before .before .before in
+    let i = b .loop .i in
+    let s = b .before in (
       omega arith,
       ⊎-elim
-          (λ w. missed-more (s .args .t1) (s .args .e) (l .loop .i) (l .loop .inv .1) (sym (w .2 .ensures) ∙ w .3 .left))
-          (λ w. missed-word (s .args .t1) (s .args .e) (l .loop .i) (getD (s .args .words .now) (l .loop .i) 0) (s .args .w) (s .pre .1 .1 (l .loop .i) (omega arith)) (s .pre .0 .2) (w .left) (l .loop .inv .1))
+          (λ w. missed-more (s .args .t1) (s .args .e) i (b .loop .inv .1) (sym (w .2 .ensures) ∙ w .3 .left))
+          (λ w. missed-word (s .args .t1) _ i _ _ (s .pre .1 .1 i (omega arith)) (s .pre .0 .2) (w .left) (b .loop .inv .1))
           (c .if1 .came),
     )
 
 returns-2 : tie.Need-returns-2 Inv-loop μ-loop
-returns-2 c =
-    let l = c .before in
-    place-missed (l .before .args .t1) (l .before .args .e) (l .before .args .n) (l .loop .i) (omega arith) (omega arith) (l .loop .inv .1)
+returns-2 c = place-missed _ _ (c .before .before .args .n) (c .before .loop .i) (omega arith) (omega arith) (c .before .loop .inv .1)
 
 pub place-of-spec : {M : Type 1} → statement M
 place-of-spec =

@@ -15,6 +15,7 @@ use Rattle.register.specs.Registers.{entryAt, repeated}
 use Rattle.register.proofs.Places.{Met, met-none, met-apart, met-more, repeated-fails}
 use Rattle.entry.proofs.Oks.{ok-short}
 use Rattle.register.proofs.Soundness.{shorts, looked-many, looked-bad, looked-twice, looked}
+use Rattle.entry.specs.declared.entries.Entry.{Entry}
 use Rattle.register.proofs.sound.look.Statement.{statement}
 use Rattle.register.proofs.sound.look.Tie as tie
 
@@ -42,22 +43,24 @@ element-copy-out-e c = omega arith
 entry-ok-requires : tie.Need-entry-ok-requires Inv-loop μ-loop
 entry-ok-requires c κs = search needs
 
+-- the entry that is looked at
+abbrev entry : tie.At-loop Inv-loop μ-loop → Entry
+entry b = entryAt (b .before .before .args .t1) (b .loop .i)
+
 returns-2 : tie.Need-returns-2 Inv-loop μ-loop
 returns-2 c =
     let b = c .before .before .before .before in
-    let r = b .before .before .args .t1 in
-    looked-bad r (b .loop .words)
-    (all-fails (λ j. entryOk (entryAt r j)) (r .count) (b .loop .i) (omega arith) (sym (c .before .entry-ok .ensures) ∙ not-true (c .before .entry-ok .result) (c .if2 .taken)))
+    looked-bad _ _ (all-fails _ (b .before .before .args .t1 .count) (b .loop .i) (omega arith) (sym (c .before .entry-ok .ensures) ∙ not-true (c .before .entry-ok .result) (c .if2 .taken)))
 
--- an entry that is looked at further is sound
-good : (c : tie.Else2 Inv-loop μ-loop)
-    → entryOk (entryAt (c .before .before .before .before .before .before .args .t1) (c .before .before .before .before .loop .i)) ≡ true
+-- an entry that is looked at further is sound, so its key is short
+good : (c : tie.Else2 Inv-loop μ-loop) → entryOk (entry (c .before .before .before .before)) ≡ true
 good c = sym (c .before .entry-ok .ensures) ∙ not-false (c .before .entry-ok .result) (c .if2 .left)
 
+short : (c : tie.Else2 Inv-loop μ-loop) → entry (c .before .before .before .before) .length ≤ 32
+short c = ok-short _ (good c)
+
 word-of-requires : tie.Need-word-of-requires Inv-loop μ-loop
-word-of-requires c κs =
-    let b = c .before .before .before .before in
-    ok-short (entryAt (b .before .before .args .t1) (b .loop .i)) (good c)
+word-of-requires c κs = short c
 
 cast-slot : tie.Need-cast-slot Inv-loop μ-loop
 cast-slot c = omega arith
@@ -67,19 +70,14 @@ array-read-if3 c = omega arith
 
 place-of-requires : tie.Need-place-of-requires Inv-loop μ-loop
 place-of-requires c κs =
-    let d = c .before .before .before in
-    let b = d .before .before .before .before in
-    let r = b .before .before .args .t1 in (
-      (omega arith, ok-short (entryAt r (b .loop .i)) (good d), c .before .before .word-of .ensures),
-      (shorts r (b .loop .i) (b .loop .inv .1), λ j h. b .loop .inv .2 .same j h),
+    let b = c .before .before .before .before .before .before .before in (
+      (omega arith, short (c .before .before .before), c .before .before .word-of .ensures),
+      (shorts (b .before .before .args .t1) (b .loop .i) (b .loop .inv .1), λ j h. b .loop .inv .2 .same j h),
     )
 
 returns-3 : tie.Need-returns-3 Inv-loop μ-loop
 returns-3 c =
-    let b = c .before .before .before .before .before .before .before .before .before in
-    let r = b .before .before .args .t1 in
-    looked-twice r (b .loop .words)
-    (sym (repeated-fails r (r .count) (b .loop .i) (c .before .place-of .result) (omega arith) (c .if4 .taken) (c .before .place-of .ensures)))
+    looked-twice _ _ (sym (repeated-fails (c .before .before .before .before .before .before .before .before .before .before .before .args .t1) _ _ (c .before .place-of .result) (omega arith) (c .if4 .taken) (c .before .place-of .ensures)))
 
 array-write-met : tie.Need-array-write-met Inv-loop μ-loop
 array-write-met c = omega arith
@@ -99,14 +97,13 @@ loop-less c = omega arith
 loop-again : tie.Need-loop-again Inv-loop μ-loop
 loop-again c =
     let d = c .before .before in
-    let b = d .before .before .before .before in
-    let r = b .before .before .args .t1 in
+    let l = d .before .before .before .before .loop in
     let w = c .before .word-of in (
       omega arith,
-      all-more (λ j. entryOk (entryAt r j)) (b .loop .i) (b .loop .inv .1) (good d),
-      agreed-set 0 (λ j. wordOf (entryAt r j)) 512 (b .loop .words) (b .loop .i) (w .result) (omega arith) (w .ensures) (b .loop .inv .2),
-      met-more r (b .loop .met) (b .loop .i) (w .result) (w .ensures) (b .loop .inv .3)
-          (⊎-elim (λ u. u .2 .ensures .missed (u .3 .left)) (λ u. met-apart r (b .loop .met) (b .loop .i) _ (w .ensures) (b .loop .inv .3) (u .left)) (c .if3 .came)),
+      all-more _ (l .i) (l .inv .1) (good d),
+      agreed-set 0 _ 512 (l .words) (l .i) (w .result) (omega arith) (w .ensures) (l .inv .2),
+      met-more _ (l .met) (l .i) (w .result) (w .ensures) (l .inv .3)
+          (⊎-elim (λ u. u .2 .ensures .missed (u .3 .left)) (λ u. met-apart _ (l .met) (l .i) _ (w .ensures) (l .inv .3) (u .left)) (c .if3 .came)),
     )
 
 returns-4 : tie.Need-returns-4 Inv-loop μ-loop

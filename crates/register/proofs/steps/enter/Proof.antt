@@ -5,7 +5,6 @@ use native.Mathlib.Omega.{arith}
 use borrow.Author.Tests.{not-true, not-false}
 use borrow.Author.Needs.{needs}
 use Rattle.quantity.specs.Keys.{keyShape}
-use Rattle.quantity.specs.declared.refusals.Refusal.the-variants.{NotRequest, PriceRange, RegisterDamaged}
 use Rattle.quantity.proofs.Shapes.{key-shape}
 use Rattle.rating.specs.declared.sheets.Rated.the-variants as rating
 use Rattle.rating.specs.Sheets.{ratedOf}
@@ -23,11 +22,15 @@ call c = callOf (c .args .customer) (c .args .key .now) (c .args .kind) (c .args
 whole : (c : tie.Else1) → sound (c .before .before .before .before .args .register) ≡ true
 whole c = sym (c .before .before .look .ensures .right) ∙ not-false (c .before .before .look .result .sound) (c .if1 .left)
 
-shaped : (c : tie.Else2) → keyShape (c .before .before .before .before .before .before .args .key .now) ≡ true
-shaped c = sym (c .before .is-key-of .ensures) ∙ not-false (c .before .is-key-of .result) (c .if2 .left)
+abbrev start : tie.Else2 → tie.Start
+start c = c .before .before .before .before .before .before
 
-rated : (c : tie.After-sheet) → let a = c .before .before .before .before .before .before .before .before .before .args in ratedOf (a .kind) (a .set) ≡ rating.Rating (c .sheet .given .0 .0)
-rated c = sym (c .before .before .rate .ensures) ∙ c .sheet .given .1
+shaped : (c : tie.Else2) → (sound (start c .args .register) ≡ true) × (keyShape (start c .args .key .now) ≡ true)
+shaped c = (whole (c .before .before), sym (c .before .is-key-of .ensures) ∙ not-false (c .before .is-key-of .result) (c .if2 .left))
+
+rated : (c : tie.After-sheet) → let a = start (c .before .before .before) .args in
+    (sound (a .register) ≡ true) × (keyShape (a .key .now) ≡ true) × (ratedOf (a .kind) (a .set) ≡ rating.Rating (c .sheet .given .0 .0))
+rated c = let k = shaped (c .before .before .before) in (k .0, k .1, sym (c .before .before .rate .ensures) ∙ c .sheet .given .1)
 
 look-requires : tie.Need-look-requires
 look-requires c κs = search needs
@@ -37,10 +40,8 @@ refuse-requires c κs = search needs
 
 returns : tie.Need-returns
 returns c =
-    let t = c .before in
-    let s = t .before .before .before .before in
-    step-refused (s .args .register) (call s) (c .refuse .result) RegisterDamaged (c .refuse .ensures)
-    (due-damaged (s .args .register) (call s) (sym (t .before .before .look .ensures .right) ∙ not-true (t .before .before .look .result .sound) (t .if1 .taken)))
+    let l = c .before .before .before .look in
+    step-refused _ _ _ _ (c .refuse .ensures) (due-damaged _ _ (sym (l .ensures .right) ∙ not-true (l .result .sound) (c .before .if1 .taken)))
 
 is-key-of-requires : tie.Need-is-key-of-requires
 is-key-of-requires c κs = search needs
@@ -50,10 +51,8 @@ refuse-requires-2 c κs = search needs
 
 returns-2 : tie.Need-returns-2
 returns-2 c =
-    let t = c .before in
-    let s = t .before .before .before .before .before .before in
-    step-refused (s .args .register) (call s) (c .refuse2 .result) NotRequest (c .refuse2 .ensures)
-    (due-shape (s .args .register) (call s) (whole (t .before .before)) (sym (t .before .is-key-of .ensures) ∙ not-true (t .before .is-key-of .result) (t .if2 .taken)))
+    let t = c .before .before in
+    step-refused _ _ _ _ (c .refuse2 .ensures) (due-shape _ _ (whole (t .before)) (sym (t .is-key-of .ensures) ∙ not-true (t .is-key-of .result) (c .before .if2 .taken)))
 
 rate-requires : tie.Need-rate-requires
 rate-requires c κs = search needs
@@ -75,41 +74,32 @@ refuse-requires-4 c κs = search needs
 
 returns-3 : tie.Need-returns-3
 returns-3 c =
-    let t = c .before in
-    let w = t .before .before .before in
-    let k = w .before .before .before in
-    let s = k .before .before .before .before .before .before in
-    step-refused (s .args .register) (call s) (c .refuse4 .result) PriceRange (c .refuse4 .ensures)
-    (due-price (s .args .register) (call s) (whole (k .before .before)) (shaped k) (w .sheet .given .0 .0) (rated w) (sym (t .before .in-range .ensures) ∙ not-true (t .before .in-range .result) (t .if3 .taken)))
+    let r = rated (c .before .before .before .before) in
+    let p = c .before .before .in-range in
+    step-refused _ _ _ _ (c .refuse4 .ensures) (due-price _ _ (r .0) (r .1) _ (r .2) (sym (p .ensures) ∙ not-true (p .result) (c .before .if3 .taken)))
 
 entry-of-requires : tie.Need-entry-of-requires
-entry-of-requires c κs =
-    let k = c .before .before .before .before .before .before .before in
-    key-shape (k .before .before .before .before .before .before .args .key .now) (shaped k) .most
+entry-of-requires c κs = key-shape _ (shaped (c .before .before .before .before .before .before .before) .1) .most
 
 place-requires : tie.Need-place-requires
 place-requires c κs =
-    let k = c .before .before .before .before .before .before .before .before in
-    let s = k .before .before .before .before .before .before in
-    let h = whole (k .before .before) in
-    (h, (k .before .before .before .before .look .ensures .each h, (omega (arith, entry-length (call s) (c .entry-of .ensures), key-shape (s .args .key .now) (shaped k) .most), entry-kind (call s) (c .entry-of .ensures))))
+    let s = c .before .before .before .before .before .before .before .before in
+    let k = shaped s in
+    let e = c .entry-of .ensures in
+    (k .0, (s .before .before .before .before .look .ensures .each (k .0), (omega (arith, entry-length (call (start s)) e, key-shape _ (k .1) .most), entry-kind (call (start s)) e)))
 
 returns-4 : tie.Need-returns-4
 returns-4 c =
     let w = c .before .before in
-    let k = w .before .before .before in
-    let s = k .before .before .before .before .before .before in
-    step-refused (s .args .register) (call s) (c .refuse3 .result) (w .refusal .given .0 .0) (c .refuse3 .ensures)
-    (due-refused (s .args .register) (call s) (whole (k .before .before)) (shaped k) (w .refusal .given .0 .0) (sym (w .before .before .rate .ensures) ∙ w .refusal .given .1))
+    let k = shaped (w .before .before .before) in
+    step-refused _ _ _ _ (c .refuse3 .ensures) (due-refused _ _ (k .0) (k .1) _ (sym (w .before .before .rate .ensures) ∙ w .refusal .given .1))
 
 returns-5 : tie.Need-returns-5
 returns-5 c =
-    let t = c .before .before .before in
-    let w = t .before .before .before in
-    let k = w .before .before .before in
-    let s = k .before .before .before .before .before .before in
-    step-placed (s .args .register) (call s) (c .place .result) (c .before .entry-of .result) (w .sheet .given .0 .0) (c .before .entry-of .ensures)
-    (due-placed (s .args .register) (call s) (whole (k .before .before)) (shaped k) (w .sheet .given .0 .0) (rated w) (sym (t .before .in-range .ensures) ∙ not-false (t .before .in-range .result) (t .if3 .left)))
+    let p = c .before .before .before .before in
+    let r = rated (p .before .before) in
+    step-placed _ (call (start (p .before .before .before .before .before))) _ _ _ (c .before .entry-of .ensures)
+    (due-placed _ (call (start (p .before .before .before .before .before))) (r .0) (r .1) _ (r .2) (sym (p .in-range .ensures) ∙ not-false (p .in-range .result) (c .before .before .before .if3 .left)))
     (c .place .ensures .0) (c .place .ensures .1)
 
 pub enter-spec : {M : Type 1} → statement M

@@ -1,22 +1,27 @@
 -- `rooms::background::correct_laboratory` meets its contract: the total is tested first, then the background. Assumes nothing.
 use borrow.Author.Needs.{needs}
-use mathlib.Core.Path.{sym, _∙_}
+use mathlib.Core.Path.{_≡_, sym, _∙_}
 use borrow.Author.Tests.{not-true, not-false}
-use Rattle.rooms.specs.Background.{laboratoryLevel, laboratoryOf}
+use mathlib.Core.Bool.{true}
+use Rattle.rooms.specs.Background.{laboratoryOf}
 use Rattle.rooms.proofs.Rules.{no-total, no-background, both-in}
+use Rattle.quantity.specs.Quantities.{inRange}
 use Rattle.rooms.proofs.background.correct_laboratory.Statement.{statement}
 use Rattle.rooms.proofs.background.correct_laboratory.Tie as tie
+
+-- what the tests say that did not refuse
+total-in : (c : tie.Else1) → inRange (c .before .before .args .total .0) ≡ true
+total-in c = sym (c .before .in-range .ensures) ∙ not-false (c .before .in-range .result) (c .if1 .left)
+
+background-in : (c : tie.Else2) → inRange (c .before .before .before .before .args .background .0) ≡ true
+background-in c = sym (c .before .in-range2 .ensures) ∙ not-false (c .before .in-range2 .result) (c .if2 .left)
 
 in-range-requires : tie.Need-in-range-requires
 in-range-requires c κs = search needs
 
 returns : tie.Need-returns
 unfolding laboratoryOf
-returns c =
-    let a = c .before .before .args in
-    let x = a .total .0 in
-    let y = a .background .0 in
-    no-total x y (laboratoryLevel x y) (sym (c .before .in-range .ensures) ∙ not-true (c .before .in-range .result) (c .if1 .taken))
+returns c = no-total _ _ _ (sym (c .before .in-range .ensures) ∙ not-true (c .before .in-range .result) (c .if1 .taken))
 
 in-range-requires-2 : tie.Need-in-range-requires-2
 in-range-requires-2 c κs = search needs
@@ -24,21 +29,15 @@ in-range-requires-2 c κs = search needs
 returns-2 : tie.Need-returns-2
 unfolding laboratoryOf
 returns-2 c =
-    let a = c .before .before .before .before .args in
-    let x = a .total .0 in
-    let y = a .background .0 in
-    no-background x y (laboratoryLevel x y) (sym (c .before .before .before .in-range .ensures) ∙ not-false (c .before .before .before .in-range .result) (c .before .before .if1 .left)) (sym (c .before .in-range2 .ensures) ∙ not-true (c .before .in-range2 .result) (c .if2 .taken))
+    no-background _ _ _ (total-in (c .before .before))
+    (sym (c .before .in-range2 .ensures) ∙ not-true (c .before .in-range2 .result) (c .if2 .taken))
 
 in-laboratory-requires : tie.Need-in-laboratory-requires
-in-laboratory-requires c κs = (sym (c .before .before .before .in-range .ensures) ∙ not-false (c .before .before .before .in-range .result) (c .before .before .if1 .left), sym (c .before .in-range2 .ensures) ∙ not-false (c .before .in-range2 .result) (c .if2 .left))
+in-laboratory-requires c κs = (total-in (c .before .before), background-in c)
 
 returns-3 : tie.Need-returns-3
 unfolding laboratoryOf
-returns-3 c =
-    let a = c .before .before .before .before .before .args in
-    let x = a .total .0 in
-    let y = a .background .0 in
-    c .in-laboratory .ensures ∙ both-in x y (laboratoryLevel x y) (sym (c .before .before .before .before .in-range .ensures) ∙ not-false (c .before .before .before .before .in-range .result) (c .before .before .before .if1 .left)) (sym (c .before .before .in-range2 .ensures) ∙ not-false (c .before .before .in-range2 .result) (c .before .if2 .left))
+returns-3 c = c .in-laboratory .ensures ∙ both-in _ _ _ (total-in (c .before .before .before)) (background-in (c .before))
 
 pub correct-laboratory-spec : {M : Type 1} → statement M
 correct-laboratory-spec =

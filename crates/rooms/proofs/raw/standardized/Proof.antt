@@ -6,6 +6,8 @@ use Rattle.intake.specs.declared.singles.Taken.the-variants.{Value}
 use Rattle.intake.specs.Taken.{floatTaken}
 use Rattle.intake.proofs.Meaning.{time-range}
 use Rattle.rooms.proofs.Differences.{float-range, no-source, no-receiving, no-background, no-time, all-taken}
+use Rattle.intake.specs.declared.singles.Time.the-variants as times
+use Rattle.intake.specs.Times.{timeOf}
 use Rattle.rooms.proofs.raw.standardized.Statement.{statement}
 use Rattle.rooms.proofs.raw.standardized.Tie as tie
 
@@ -19,9 +21,7 @@ enum-known-refusal : tie.Need-enum-known-refusal
 enum-known-refusal c = search needs
 
 returns : tie.Need-returns
-returns c =
-    let w = c .before .refusal .given in
-    no-source (c .before .before .before .before .args .raw) (w .0 .0) (sym (c .before .before .before .take-float .ensures) ∙ w .1)
+returns c = no-source _ _ (sym (c .before .before .before .take-float .ensures) ∙ c .before .refusal .given .1)
 
 -- what became of each float that was taken
 source : (c : tie.After-known-told) → let w = c .before .value .given in floatTaken false (c .before .before .before .before .args .raw .source) ≡ Value (w .0 .0) (w .0 .1 .0)
@@ -38,12 +38,13 @@ enum-known-refusal-2 c = search needs
 
 returns-2 : tie.Need-returns-2
 returns-2 c =
-    let w = c .before .refusal2 .given in
-    let s = c .before .before .before .before in
-    let v = s .before .value .given in
-    no-receiving (s .before .before .before .before .args .raw) (v .0 .0) (v .0 .1 .0) (source s) (w .0 .0) (sym (c .before .before .before .take-float2 .ensures) ∙ w .1)
+    no-receiving _ _ _ (source (c .before .before .before .before)) _ (sym (c .before .before .before .take-float2 .ensures) ∙ c .before .refusal2 .given .1)
 
-receiving : (c : tie.After-known-told3) → let w = c .before .value2 .given in floatTaken false (c .before .before .before .before .before .before .before .before .args .raw .receiving) ≡ Value (w .0 .0) (w .0 .1 .0)
+-- the source level and the receiving level; and the background too
+abbrev sourced : tie.After-known-told3 → tie.After-known-told
+sourced c = c .before .before .before .before
+
+receiving : (c : tie.After-known-told3) → let w = c .before .value2 .given in floatTaken false (sourced c .before .before .before .before .args .raw .receiving) ≡ Value (w .0 .0) (w .0 .1 .0)
 receiving c = sym (c .before .before .before .take-float2 .ensures) ∙ c .before .value2 .given .1
 
 take-float-requires-3 : tie.Need-take-float-requires-3
@@ -57,15 +58,13 @@ enum-known-refusal-3 c = search needs
 
 returns-3 : tie.Need-returns-3
 returns-3 c =
-    let w = c .before .refusal3 .given in
     let r = c .before .before .before .before in
-    let s = r .before .before .before .before in
-    let v = s .before .value .given in
-    let u = r .before .value2 .given in
-    no-background (s .before .before .before .before .args .raw) (v .0 .0) (v .0 .1 .0) (source s) (u .0 .0) (u .0 .1 .0) (receiving r) (w .0 .0)
-    (sym (c .before .before .before .take-float3 .ensures) ∙ w .1)
+    no-background _ _ _ (source (sourced r)) _ _ (receiving r) _ (sym (c .before .before .before .take-float3 .ensures) ∙ c .before .refusal3 .given .1)
 
-background : (c : tie.After-known-told5) → let w = c .before .value3 .given in floatTaken false (c .before .before .before .before .before .before .before .before .before .before .before .before .args .raw .background) ≡ Value (w .0 .0) (w .0 .1 .0)
+abbrev received : tie.After-known-told5 → tie.After-known-told3
+received c = c .before .before .before .before
+
+background : (c : tie.After-known-told5) → let w = c .before .value3 .given in floatTaken false (sourced (received c) .before .before .before .before .args .raw .background) ≡ Value (w .0 .0) (w .0 .1 .0)
 background c = sym (c .before .before .before .take-float3 .ensures) ∙ c .before .value3 .given .1
 
 take-time-requires : tie.Need-take-time-requires
@@ -74,22 +73,19 @@ take-time-requires c κs = search needs
 enum-known-time : tie.Need-enum-known-time
 enum-known-time c = search needs
 
+-- the time that was taken
+time : (c : tie.After-known-told7) → timeOf (sourced (received (c .before .before .before .before)) .before .before .before .before .args .raw .time) ≡ times.Value (c .before .time .given .0 .0)
+time c = sym (c .before .before .before .take-time .ensures) ∙ c .before .time .given .1
+
 differed-requires : tie.Need-differed-requires
 differed-requires c κs =
-    let b = c .before .before .before .before in
-    let r = b .before .before .before .before in
-    let s = r .before .before .before .before in
-    let raw = s .before .before .before .before .args .raw in
-    let v = s .before .value .given in
-    let u = r .before .value2 .given in
-    let x = b .before .value3 .given in
-    let w = c .before .time .given in (
+    let b = c .before .before .before .before in (
       (
-        float-range (raw .source) (v .0 .0) (v .0 .1 .0) (source s),
-        float-range (raw .receiving) (u .0 .0) (u .0 .1 .0) (receiving r),
-        float-range (raw .background) (x .0 .0) (x .0 .1 .0) (background b),
+        float-range _ _ _ (source (sourced (received b))),
+        float-range _ _ _ (receiving (received b)),
+        float-range _ _ _ (background b),
       ),
-      time-range (raw .time) (w .0 .0) (sym (c .before .before .before .take-time .ensures) ∙ w .1),
+      time-range _ _ (time c),
     )
 
 enum-known-refusal-4 : tie.Need-enum-known-refusal-4
@@ -97,27 +93,15 @@ enum-known-refusal-4 c = search needs
 
 returns-4 : tie.Need-returns-4
 returns-4 c =
-    let b = c .before .before .before .before .before in
-    let r = b .before .before .before .before in
-    let s = r .before .before .before .before in
-    let v = s .before .value .given in
-    let u = r .before .value2 .given in
-    let x = b .before .value3 .given in
-    let w = c .before .before .time .given in
-    all-taken (s .before .before .before .before .args .raw) (v .0 .0) (v .0 .1 .0) (source s) (u .0 .0) (u .0 .1 .0) (receiving r) (x .0 .0) (x .0 .1 .0) (background b)
-    (w .0 .0) (c .differed .result) (sym (c .before .before .before .before .take-time .ensures) ∙ w .1) (c .differed .ensures)
+    let t = c .before in
+    let l = t .before .before .before .before in
+    all-taken _ _ _ (source (sourced (received l))) _ _ (receiving (received l)) _ _ (background l) _ _ (time t) (c .differed .ensures)
 
 returns-5 : tie.Need-returns-5
 returns-5 c =
     let b = c .before .before .before .before in
-    let r = b .before .before .before .before in
-    let s = r .before .before .before .before in
-    let v = s .before .value .given in
-    let u = r .before .value2 .given in
-    let x = b .before .value3 .given in
-    let w = c .before .refusal4 .given in
-    no-time (s .before .before .before .before .args .raw) (v .0 .0) (v .0 .1 .0) (source s) (u .0 .0) (u .0 .1 .0) (receiving r) (x .0 .0) (x .0 .1 .0) (background b)
-    (w .0 .0) (sym (c .before .before .before .take-time .ensures) ∙ w .1)
+    no-time _ _ _ (source (sourced (received b))) _ _ (receiving (received b)) _ _ (background b) _
+    (sym (c .before .before .before .take-time .ensures) ∙ c .before .refusal4 .given .1)
 
 pub standardized-spec : {M : Type 1} → statement M
 standardized-spec =

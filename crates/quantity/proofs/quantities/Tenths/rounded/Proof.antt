@@ -16,10 +16,9 @@ less-requires c κs = search needs
 
 returns : tie.Need-returns
 returns c =
-    let z = c .before .before .before .args .self .0 in
     back (c .less .result) (c .less .ok)
     ∙ c .less .ensures
-    ∙ half-up-by z (c .before .above .result) (rw (back z (c .before .before .struct-told .given .0 .1)) at (c .before .above .ensures))
+    ∙ half-up-by _ _ (rw (back _ (c .before .before .struct-told .given .0 .1)) at (c .before .above .ensures))
 
 pub rounded-spec : {M : Type 1} → statement M
 rounded-spec = tie.close (tie.spec above-requires less-requires returns)
