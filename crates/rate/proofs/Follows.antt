@@ -16,6 +16,7 @@ use Rattle.rate.specs.declared.State.{State}
 use Rattle.rate.specs.Waits.{waiting, blockAt, firstState, readBehind, Advanced, Steps, Ran}
 use Rattle.rate.specs.Waits.Advanced.{answered, ended, read, broken}
 use Rattle.rate.specs.Waits.Steps.{none, more}
+use Rattle.laws.proofs.Tests.{never}
 
 -- What is still to come, before a step and after it. A read takes its bytes from the front, and one that has room takes none only
 -- where nothing is to come: this is what is asked of the input.
@@ -34,12 +35,9 @@ pub data Calls (room : ℕ) : State → List ℕ → List ℕ → List ℕ → T
   step : {s r : State} {buf after before future out : List ℕ} → s .on ≡ true → (a : Advanced s buf room r after) → Reads a before future
       → Calls room r after future out → Calls room s buf before (blockAt s buf room .text ++ out)
 
-pub clash : {b : Bool} → b ≡ true → b ≡ false → ⊥
-clash p q = let z : _≡_ {A = ℕ} 0 1 = cc in omega arith
-
 over : {room : ℕ} {s : State} {buf future out : List ℕ} → Calls room s buf future out → s .on ≡ false → (out ≡ []) × (s .failed ≡ false)
 over (Calls.stop off ok) e = (refl, ok)
-over (Calls.step on a reads next) e = absurd (clash on e)
+over (Calls.step on a reads next) e = absurd (never on e)
 
 empty : (l : List ℕ) → length l ≡ 0 → l ≡ []
 empty [] e = refl
@@ -75,7 +73,7 @@ module _ (room : ℕ) (wide : 64 ≤ room) (s : State) (buf : List ℕ) where
     where
       go : (n : ℕ) → length (waiting s buf) ≡ n → waiting s buf ≡ []
       go zero e = empty (waiting s buf) e
-      go (suc n) e = absurd (clash l (gets-on (waiting s buf) room wide (omega arith) (s .skipping) (s .last) u .open-end))
+      go (suc n) e = absurd (never l (gets-on (waiting s buf) room wide (omega arith) (s .skipping) (s .last) u .open-end))
 
   module _ (r : State) (after before future out : List ℕ) where
     step-runs : (a : Advanced s buf room r after) → Reads a before future → 512 ≤ length buf → (s .last ≡ true → before ≡ [])
@@ -100,17 +98,17 @@ module _ (room : ℕ) (wide : 64 ≤ room) (s : State) (buf : List ℕ) where
         (subst (λ (b : Bool). Run (waiting s buf ++ chunk) b future out) (h .skipping)
         (subst (λ (p : List ℕ). Run p (r .skipping) future out) (h .waits)
         (next (omega (arith, h .size)) (h .on) (λ q. reads .1 (omega (arith, few u)) (empty chunk (eqb-true (length chunk) 0 (sym (h .last) ∙ q)))))))))
-    step-runs (broken off bad) reads size end over next = absurd (clash bad (over off .1))
+    step-runs (broken off bad) reads size end over next = absurd (never bad (over off .1))
 
 -- ---- all steps
 pub follows : {room : ℕ} {s : State} {buf future out : List ℕ} → Calls room s buf future out → 64 ≤ room → 512 ≤ length buf → s .on ≡ true
     → (s .last ≡ true → future ≡ []) → Run (waiting s buf) (s .skipping) future out
-follows (Calls.stop off ok) wide size on end = absurd (clash on off)
+follows (Calls.stop off ok) wide size on end = absurd (never on off)
 follows {room = room} {s = s} {buf = buf} (Calls.step {r = r} {after = after} {before = before} {future = future} {out = out} on a reads next) wide size up end =
     step-runs room wide s buf r after before future out a reads size end (over next) (λ n u e. follows next wide n u e)
 
 pub all-answered : {room : ℕ} {buf input out : List ℕ} → 64 ≤ room → 512 ≤ length buf → Calls room firstState buf input out → out ≡ answersOf input
-all-answered wide size calls = run-is (follows calls wide size refl (λ e. absurd (clash e refl)))
+all-answered wide size calls = run-is (follows calls wide size refl (λ e. absurd (never e refl)))
 
 -- ---- the same of what `run` promises: what its steps read makes up the input, and what they hand out the output
 abbrev pub Moved : {room n : ℕ} {buf after : List ℕ} {s : State} → Steps room buf n s after → List ℕ → List ℕ → List ℕ → Type 0

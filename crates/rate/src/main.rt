@@ -8,7 +8,7 @@ use line::answer_block;
 ghost use mathlib.Core.Bool.{false};
 ghost use mathlib.Core.List.{_++_};
 ghost use mathlib.Core.Path.{_≡_};
-ghost use Prim.Native.Nat.{_-_, _≤_, min};
+ghost use Prim.Native.Nat.{_-_, _≤_};
 ghost use lib.ListN.{length, take, drop};
 ghost use Rattle.rate.specs.Waits.{Waits, blockAt, firstState, Called, Refilled, Advanced, Ran};
 
@@ -82,13 +82,12 @@ fn refill(buf: &mut [u8], state: State) -> State
     let end = state.end;
     shift(buf, start, end);
     let keep = end - start;
-    let room = buf.len() - keep;
     let got = libc::read(STDIN_FILENO, &mut buf[keep..]);
     if got < 0 {
         io::write_all(STDERR_FILENO, b"rate: standard input cannot be read\n");
         return stopped(true);
     }
-    let more = least(io::count(got, buf), room);
+    let more = io::count(got, &buf[keep..]);
     State {
         start: 0,
         end: keep + more,
@@ -97,13 +96,6 @@ fn refill(buf: &mut [u8], state: State) -> State
         on: true,
         failed: false,
     }
-}
-
-// The lesser of two numbers.
-fn least(a: usize, b: usize) -> usize
-    ensures { λ r. ⌜ r ≡ min a b ⌝ }
-{
-    if a < b { a } else { b }
 }
 
 // Answers what waits into `out`.

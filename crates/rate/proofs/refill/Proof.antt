@@ -16,9 +16,6 @@ shift-requires c κs = search needs
 sub-keep : tie.Need-sub-keep
 sub-keep c = search needs
 
-sub-room : tie.Need-sub-room
-sub-room c = search needs
-
 sub-read : tie.Need-sub-read
 sub-read c = search needs
 
@@ -46,11 +43,17 @@ same-length c = search needs
 returns : tie.Need-returns
 returns c = (search needs, Refilled.broken (c .stopped .ensures .1 .0) (c .stopped .ensures .1 .1))
 
+sub-count : tie.Need-sub-count
+sub-count c = search needs
+
+part-count-start : tie.Need-part-count-start
+part-count-start c = search needs
+
+part-count-end : tie.Need-part-count-end
+part-count-end c = search needs
+
 count-requires : tie.Need-count-requires
 count-requires c κs = search needs
-
-least-requires : tie.Need-least-requires
-least-requires c κs = search needs
 
 add-t13 : tie.Need-add-t13
 add-t13 c = search needs
@@ -69,9 +72,9 @@ returns-2 c =
     let shifted = h .shift .last .0 in
     let n = length shifted - keep in
     let ys = r .read .last .1 .0 in
-    let fits : keep + c .least .result ≤ length (a .buf .now) = omega (arith, c .least .ensures, h .shift .kept .0, s .pre .order, s .pre .within) in (
+    let fits : keep + c .count .result ≤ length (a .buf .now) = omega (arith, c .count .ensures, h .shift .kept .0, s .pre .order, s .pre .within) in (
       search needs,
-      Refilled.read (read-behind st (a .buf .now) shifted ys n (c .least .result) (s .pre) (h .shift .ensures) (h .shift .kept .0)
+      Refilled.read (read-behind st (a .buf .now) shifted ys n (c .count .result) (s .pre) (h .shift .ensures) (h .shift .kept .0)
           (same-len-mid keep n shifted ys (r .read .kept .1 .0) ∙ h .shift .kept .0) fits),
     )
 
@@ -81,7 +84,6 @@ refill-spec =
     (tie.spec
     shift-requires
     sub-keep
-    sub-room
     sub-read
     part-read-start
     part-read-end
@@ -91,8 +93,10 @@ refill-spec =
     stopped-requires
     same-length
     returns
+    sub-count
+    part-count-start
+    part-count-end
     count-requires
-    least-requires
     add-t13
     same-length-2
     returns-2)

@@ -7,7 +7,7 @@ use borrow.Author.Needs.{needs}
 use lib.ListN.{length}
 use Rattle.rate.specs.declared.State.{State}
 use Rattle.rate.specs.Waits.{Waits, Advanced, Steps, mostTurns}
-use Rattle.rate.proofs.Follows.{clash}
+use Rattle.laws.proofs.Tests.{never}
 use Rattle.rate.proofs.run.Statement.{statement}
 use Rattle.rate.proofs.run.Tie as tie
 
@@ -70,7 +70,7 @@ same-length-2 c = c .before .before .loop .inv .1
 returns : tie.Need-returns Inv-loop μ-loop
 returns c =
     let l = c .before .before .loop in
-    record { turns = mostTurns - l .turns; state = l .state; steps = l .inv .4; over = λ e. absurd (clash e (c .if1 .left)) }
+    record { turns = mostTurns - l .turns; state = l .state; steps = l .inv .4; over = λ e. absurd (never e (c .if1 .left)) }
 
 same-length-3 : tie.Need-same-length-3 Inv-loop μ-loop
 same-length-3 c = c .before .loop .inv .0
