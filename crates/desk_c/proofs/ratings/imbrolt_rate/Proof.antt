@@ -27,7 +27,7 @@ rate-requires : tie.Need-rate-requires
 rate-requires c κs = search needs
 
 give-rated-requires : tie.Need-give-rated-requires
-give-rated-requires c κs = rate-fits _ (c .before .set-from .result) _ (c .rate .ensures)
+give-rated-requires c κs = rate-fits (c .before .before .before .before .kind .given .0 .0) (c .before .set-from .result) (c .rate .result) (c .rate .ensures)
 
 returns : tie.Need-returns
 unfolding rateAnswer
