@@ -23,7 +23,7 @@ lift-requires c κs = search needs
 enum-known-n : tie.Need-enum-known-n
 enum-known-n c = search needs
 
--- how it began, what the lift call answered, and that a count is small
+-- how it began, what the lift call answered, that a count is small, and that there is room for it
 abbrev start : tie.After-lift → tie.Start
 start c = c .before .before .before .before
 
@@ -32,6 +32,9 @@ answered c = lifted-one (c .lift .result) _ (c .lift .ensures .0)
 
 small : (c : tie.After-known-told) → c .before .n .given .0 .0 ≤ 696
 small c = count-small _ _ _ _ _ (sym (answered (c .before .before .before .before .before)) ∙ c .before .n .given .1)
+
+room : (c : tie.After-lift) → 1 ≤ length (start c .args .out .now)
+room c = omega (arith, c .before .before .if1 .left)
 
 cast-count : tie.Need-cast-count
 cast-count c = record { sfits = omega (arith, small c) }
@@ -54,7 +57,7 @@ same-length-2 c = search needs
 returns-2 : tie.Need-returns-2
 returns-2 c =
     let l = c .before .before .before .before .before in
-    lift-counted _ _ _ _ (start l .args .out .now) _ _ _ _ (omega (arith, l .before .before .if1 .left)) (answered l) (l .lift .ensures .1) (c .before .n .given .1) (as-pos _ (omega (arith, small c)))
+    lift-counted _ _ _ _ _ _ _ _ _ (room l) (answered l) (l .lift .ensures .1) (c .before .n .given .1) (as-pos _ (omega (arith, small c)))
 
 same-length-3 : tie.Need-same-length-3
 same-length-3 c = search needs
@@ -62,7 +65,7 @@ same-length-3 c = search needs
 returns-3 : tie.Need-returns-3
 returns-3 c =
     let l = c .before .before .before .before .before .before in
-    lift-refused _ _ _ _ (start l .args .out .now) _ _ _ _ (omega (arith, l .before .before .if1 .left)) (answered l) (l .lift .ensures .1) (c .before .before .refusal .given .1) (c .number .ensures)
+    lift-refused _ _ _ _ _ _ _ _ _ (room l) (answered l) (l .lift .ensures .1) (c .before .before .refusal .given .1) (c .number .ensures)
 
 pub give-lift-spec : {M : Type 1} → statement M
 give-lift-spec =

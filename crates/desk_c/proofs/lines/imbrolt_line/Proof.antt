@@ -2,6 +2,8 @@
 use borrow.Author.Needs.{needs}
 use native.Mathlib.Omega.{arith}
 use mathlib.Core.Path.{_≡_}
+use Prim.Native.Nat.{_≤_}
+use lib.ListN.{length}
 use Rattle.desk.proofs.Answers.{wrote-one}
 use Rattle.desk_c.proofs.Lining.{line-no-place, line-written, line-refused}
 use Rattle.reply.specs.Answers.{answerOf}
@@ -33,14 +35,20 @@ same-length c = search needs
 same-length-2 : tie.Need-same-length-2
 same-length-2 c = search needs
 
--- what the line call wrote
-answered : (c : tie.After-answer-line) → let a = c .before .before .before .before .before .before .args in c .answer-line .result ≡ wroteOf (a .out .now) (a .at) (answerOf (a .line .now))
+-- what the line call wrote, and that there is room for the count
+abbrev start : tie.After-answer-line → tie.Start
+start c = c .before .before .before .before .before .before
+
+answered : (c : tie.After-answer-line) → let a = start c .args in c .answer-line .result ≡ wroteOf (a .out .now) (a .at) (answerOf (a .line .now))
 answered c = wrote-one (c .answer-line .result) _ (c .answer-line .ensures .0)
+
+room : (c : tie.After-answer-line) → 1 ≤ length (start c .args .wrote .now)
+room c = omega (arith, c .before .before .if1 .left)
 
 returns-2 : tie.Need-returns-2
 returns-2 c =
     let l = c .before .before .before .before .before in
-    line-written _ _ _ (l .before .before .before .before .before .before .args .wrote .now) (omega (arith, l .before .before .if1 .left)) _ _ (answered l) (l .answer-line .ensures .1) _ (c .before .n .given .1)
+    line-written _ _ _ _ (room l) _ _ (answered l) (l .answer-line .ensures .1) _ (c .before .n .given .1)
 
 same-length-3 : tie.Need-same-length-3
 same-length-3 c = search needs
@@ -48,7 +56,7 @@ same-length-3 c = search needs
 returns-3 : tie.Need-returns-3
 returns-3 c =
     let l = c .before .before .before .before .before .before in
-    line-refused _ _ _ (l .before .before .before .before .before .before .args .wrote .now) (omega (arith, l .before .before .if1 .left)) _ _ (answered l) (l .answer-line .ensures .1) _ _ (c .before .before .refusal .given .1) (c .number .ensures)
+    line-refused _ _ _ _ (room l) _ _ (answered l) (l .answer-line .ensures .1) _ _ (c .before .before .refusal .given .1) (c .number .ensures)
 
 pub imbrolt-line-spec : {M : Type 1} → statement M
 imbrolt-line-spec =

@@ -41,8 +41,9 @@ cast-means c = search needs
 
 means-requires : tie.Need-means-requires
 means-requires c κs =
-    let w = c .before .before .before in
-    (omega arith, ((λ j h. omega arith), ((λ i h. widened-range _ (w .widened .result) (within (w .before .before) .1) (w .widened .ensures .0) (w .widened .ensures .1) i), c .before .before .scaled-powers .ensures)))
+    let e = c .before .before .before .before .before in
+    let v = c .before .before .before .widened in
+    (omega arith, ((λ j h. omega arith), ((λ i h. widened-range _ (v .result) (within e .1) (v .ensures .0) (v .ensures .1) i), c .before .before .scaled-powers .ensures)))
 
 returns-3 : tie.Need-returns-3
 returns-3 c =

@@ -53,15 +53,38 @@ returns-4 c = rw (from-20 (c .before .before .before), from-25 (c .before .befor
 
 returns-5 : tie.Need-returns-5
 unfolding gradeOf
-returns-5 c = rw (from-20 (c .before .before .before .before), from-25 (c .before .before .before), from-30 (c .before .before), from-35 (c .before), rw (number (c .before .before .before .before .before)) at (c .if5 .taken)) refl
+returns-5 c =
+    rw (
+      from-20 (c .before .before .before .before),
+      from-25 (c .before .before .before),
+      from-30 (c .before .before),
+      from-35 (c .before),
+      rw (number (c .before .before .before .before .before)) at (c .if5 .taken),
+    ) refl
 
 returns-6 : tie.Need-returns-6
 unfolding gradeOf
-returns-6 c = rw (from-20 (c .before .before .before .before .before), from-25 (c .before .before .before .before), from-30 (c .before .before .before), from-35 (c .before .before), from-40 (c .before), rw (number (c .before .before .before .before .before .before)) at (c .if6 .taken)) refl
+returns-6 c =
+    rw (
+      from-20 (c .before .before .before .before .before),
+      from-25 (c .before .before .before .before),
+      from-30 (c .before .before .before),
+      from-35 (c .before .before),
+      from-40 (c .before),
+      rw (number (c .before .before .before .before .before .before)) at (c .if6 .taken),
+    ) refl
 
 returns-7 : tie.Need-returns-7
 unfolding gradeOf
-returns-7 c = rw (from-20 (c .before .before .before .before .before), from-25 (c .before .before .before .before), from-30 (c .before .before .before), from-35 (c .before .before), from-40 (c .before), from-45 c) refl
+returns-7 c =
+    rw (
+      from-20 (c .before .before .before .before .before),
+      from-25 (c .before .before .before .before),
+      from-30 (c .before .before .before),
+      from-35 (c .before .before),
+      from-40 (c .before),
+      from-45 c,
+    ) refl
 
 pub step-spec : {M : Type 1} → statement M
 step-spec =

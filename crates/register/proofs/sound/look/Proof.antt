@@ -77,7 +77,9 @@ place-of-requires c κs =
 
 returns-3 : tie.Need-returns-3 Inv-loop μ-loop
 returns-3 c =
-    looked-twice _ _ (sym (repeated-fails (c .before .before .before .before .before .before .before .before .before .before .before .args .t1) _ _ (c .before .place-of .result) (omega arith) (c .if4 .taken) (c .before .place-of .ensures)))
+    let p = c .before .place-of in
+    let r = c .before .before .before .before .before .before .before .before .before .before .before .args .t1 in
+    looked-twice _ _ (sym (repeated-fails r _ _ (p .result) (omega arith) (c .if4 .taken) (p .ensures)))
 
 array-write-met : tie.Need-array-write-met Inv-loop μ-loop
 array-write-met c = omega arith

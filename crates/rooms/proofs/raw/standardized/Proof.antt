@@ -8,6 +8,7 @@ use Rattle.intake.proofs.Meaning.{time-range}
 use Rattle.rooms.proofs.Differences.{float-range, no-source, no-receiving, no-background, no-time, all-taken}
 use Rattle.intake.specs.declared.singles.Time.the-variants as times
 use Rattle.intake.specs.Times.{timeOf}
+use Rattle.rooms.specs.declared.raw.RawBand.{RawBand}
 use Rattle.rooms.proofs.raw.standardized.Statement.{statement}
 use Rattle.rooms.proofs.raw.standardized.Tie as tie
 
@@ -23,8 +24,11 @@ enum-known-refusal c = search needs
 returns : tie.Need-returns
 returns c = no-source _ _ (sym (c .before .before .before .take-float .ensures) ∙ c .before .refusal .given .1)
 
--- what became of each float that was taken
-source : (c : tie.After-known-told) → let w = c .before .value .given in floatTaken false (c .before .before .before .before .args .raw .source) ≡ Value (w .0 .0) (w .0 .1 .0)
+-- the band, and what became of its source level
+abbrev raw : tie.After-known-told → RawBand
+raw c = c .before .before .before .before .args .raw
+
+source : (c : tie.After-known-told) → let w = c .before .value .given in floatTaken false (raw c .source) ≡ Value (w .0 .0) (w .0 .1 .0)
 source c = sym (c .before .before .before .take-float .ensures) ∙ c .before .value .given .1
 
 take-float-requires-2 : tie.Need-take-float-requires-2
@@ -40,11 +44,11 @@ returns-2 : tie.Need-returns-2
 returns-2 c =
     no-receiving _ _ _ (source (c .before .before .before .before)) _ (sym (c .before .before .before .take-float2 .ensures) ∙ c .before .refusal2 .given .1)
 
--- the source level and the receiving level; and the background too
+-- then of its receiving level
 abbrev sourced : tie.After-known-told3 → tie.After-known-told
 sourced c = c .before .before .before .before
 
-receiving : (c : tie.After-known-told3) → let w = c .before .value2 .given in floatTaken false (sourced c .before .before .before .before .args .raw .receiving) ≡ Value (w .0 .0) (w .0 .1 .0)
+receiving : (c : tie.After-known-told3) → let w = c .before .value2 .given in floatTaken false (raw (sourced c) .receiving) ≡ Value (w .0 .0) (w .0 .1 .0)
 receiving c = sym (c .before .before .before .take-float2 .ensures) ∙ c .before .value2 .given .1
 
 take-float-requires-3 : tie.Need-take-float-requires-3
@@ -61,10 +65,11 @@ returns-3 c =
     let r = c .before .before .before .before in
     no-background _ _ _ (source (sourced r)) _ _ (receiving r) _ (sym (c .before .before .before .take-float3 .ensures) ∙ c .before .refusal3 .given .1)
 
+-- then of its background
 abbrev received : tie.After-known-told5 → tie.After-known-told3
 received c = c .before .before .before .before
 
-background : (c : tie.After-known-told5) → let w = c .before .value3 .given in floatTaken false (sourced (received c) .before .before .before .before .args .raw .background) ≡ Value (w .0 .0) (w .0 .1 .0)
+background : (c : tie.After-known-told5) → let w = c .before .value3 .given in floatTaken false (raw (sourced (received c)) .background) ≡ Value (w .0 .0) (w .0 .1 .0)
 background c = sym (c .before .before .before .take-float3 .ensures) ∙ c .before .value3 .given .1
 
 take-time-requires : tie.Need-take-time-requires
@@ -73,18 +78,14 @@ take-time-requires c κs = search needs
 enum-known-time : tie.Need-enum-known-time
 enum-known-time c = search needs
 
--- the time that was taken
-time : (c : tie.After-known-told7) → timeOf (sourced (received (c .before .before .before .before)) .before .before .before .before .args .raw .time) ≡ times.Value (c .before .time .given .0 .0)
+-- and of its time
+time : (c : tie.After-known-told7) → timeOf (raw (sourced (received (c .before .before .before .before))) .time) ≡ times.Value (c .before .time .given .0 .0)
 time c = sym (c .before .before .before .take-time .ensures) ∙ c .before .time .given .1
 
 differed-requires : tie.Need-differed-requires
 differed-requires c κs =
-    let b = c .before .before .before .before in (
-      (
-        float-range _ _ _ (source (sourced (received b))),
-        float-range _ _ _ (receiving (received b)),
-        float-range _ _ _ (background b),
-      ),
+    let l = c .before .before .before .before in (
+      (float-range _ _ _ (source (sourced (received l))), float-range _ _ _ (receiving (received l)), float-range _ _ _ (background l)),
       time-range _ _ (time c),
     )
 
