@@ -20,15 +20,19 @@ FILES = {
         "fn lost(n: u32) -> u32 {\n    n\n}\n"
     ),
     "crates/base/specs/Words.antt": (
-        "use Prim.Native.Nat.{ℕ, _+_, _*_}\n"
-        "unfoldable pub doubled : ℕ → ℕ\ndoubled n = n + n\n\n"
+        "use Prim.Native.Nat.{ℕ, _+_, _-_}\n"
+        "unfoldable pub doubled : ℕ → ℕ\ndoubled n-s = n-s + n-s\n\n"
         "abbrev pub halved : ℕ → ℕ\nhalved n = n\n\n"
         "pub record Pair : Type 0 where\n  pub left : ℕ\n  pub unread : ℕ\n\n"
         "pub data Side : Type 0 where\n  near : Side\n  far : Side\n"
     ),
     "crates/beside/src/lib.rt": "// no code\n",
     "crates/top/src/lib.rt": "use base::double;\nfn twice(n: u32) -> u32 {\n    double(double(n))\n}\npub fn four() -> u32 {\n    twice(1)\n}\n",
-    "crates/top/src/other.rt": "use crate::four;\nfn five() -> u32 {\n    four() + five()\n}\n",
+    "crates/top/src/other.rt": (
+        "use crate::four as quarter;\nuse crate::six;\n"
+        "fn five() -> u32 {\n    quarter() + five()\n}\n"
+        "fn six() -> u32 {\n    6\n}\n"
+    ),
     "crates/top/proofs/Laws.antt": (
         "-- a comment names forgotten\n"
         "use Rattle.base.specs.Words.{doubled, Pair, Side}\n\n"
@@ -43,9 +47,11 @@ FILES = {
 FOUND = {
     "crates/base/specs/Words.antt:10: nothing cites unread",
     "crates/top/proofs/Laws.antt:10: nothing cites forgotten",
-    "crates/base/specs/Words.antt:1: _*_ is imported and not used",
+    "crates/base/specs/Words.antt:1: _-_ is imported and not used",
     "crates/base/src/lib.rt:2: halved is imported and not used",
     "crates/base/src/lib.rt:8: nothing calls lost",
+    "crates/top/src/other.rt:3: nothing calls five",
+    "crates/top/src/other.rt:6: nothing calls six",
     "crates.txt:3: top does not use beside",
     "docs/PROOFS.md:1: there is no gone",
     "crates/top/proofs/twice/Proof.antt:1: the first line does not name top::twice",

@@ -6,9 +6,9 @@
 Six lists, each line with its file and place:
 
 - a name that a logic file (.antt) defines and nothing cites: no other definition of its file, no import of another file, no
-  contract, and no page of docs/ (which is how a theorem counts as used: a page says what it is for);
-- a name that a logic file imports, or that a contract's `ghost use` brings in, and does not use;
-- a function of the code (.rt) that no function names, unless it is open to callers of `desk` or `desk_c`;
+  contract, and not docs/PROOFS.md (which is how a theorem counts as used: the page says what it is for);
+- a name that a logic file imports, or that `ghost use` brings in for contracts, and does not use;
+- a function of the code (.rt) that no other function calls, unless it is open to callers of `desk` or `desk_c`;
 - a crate that crates.txt lists for a crate whose files never name it;
 - a proof of a function whose first line does not name that function, and a comment that gives a position in the code;
 - a name in code marks on the page docs/PROOFS.md that stands nowhere in the crates.
@@ -111,35 +111,51 @@ def names_uncited(files, code, pages):
                 yield f"{file.path}:{number}: nothing cites {name}"
 
 
+def is_used(name, used):
+    """Whether a name stands among words: whole, or an operator such as _+_ by its parts."""
+    parts = [part for part in name.split("_") if part]
+    return name in used or ("_" in name and all(part in used for part in parts))
+
+
+def contracts_of(text):
+    """The words of all contracts of a file of the code."""
+    lines, inside = [], False
+    for line in text.split("\n"):
+        begins = re.match(r"\s*(?:requires|ensures)\b", line)
+        inside = bool(begins) or (inside and line.strip() not in ("{", ""))
+        lines += [line] if inside else []
+    return set(words("\n".join(lines)))
+
+
 def imports_unused(files, code):
     for file in files:
         used = set(word for _, line in file.body for word in words(line))
-        text = "\n".join(line for _, line in file.body)
-        for number, _, name, here, again in file.imports:
-            parts = [part for part in here.split("_") if part]
-            if again or here in used or here.startswith("_") and all(part in text for part in parts):
-                continue
-            yield f"{file.path}:{number}: {here} is imported and not used"
+        for number, _, _, here, is_passed_on in file.imports:
+            if not is_passed_on and not is_used(here, used):
+                yield f"{file.path}:{number}: {here} is imported and not used"
     for path, text in code.items():
-        rest = re.sub(r"^ghost use .*$", "", text, flags=re.M)
+        used = contracts_of(text)
         for number, line in enumerate(text.split("\n"), 1):
             use = re.match(r"ghost use [^{]+\{(.*)\};", line)
             for name in use[1].split(",") if use else ():
-                name = name.strip().partition(" as ")[2] or name.strip()
-                parts = [part for part in name.split("_") if part]
-                if not all(part in rest for part in parts):
-                    yield f"{path}:{number}: {name} is imported and not used"
+                here = name.strip().partition(" as ")[2] or name.strip()
+                if not is_used(here, used):
+                    yield f"{path}:{number}: {here} is imported and not used"
 
 
 def functions_uncalled(code):
-    bare = {path: re.sub(r"//.*|ghost use .*|pub use .*|⌜.*⌝", "", text) for path, text in code.items()}
+    """Functions that only themselves call, or nothing; under another name, too, where they are imported so."""
+    bare = {path: re.sub(r"//.*|^\s*(?:ghost |pub )?use .*", "", text, flags=re.M) for path, text in code.items()}
+    uses = "\n".join(code.values())
     for path, text in code.items():
-        for number, line in enumerate(text.split("\n"), 1):
-            match = re.match(r"\s*(?:pub )?(?:extern \"C\" )?fn ([a-z_0-9]+)", line)
-            if not match or match[1] == "main" or (path.parts[1] in OPEN_CRATES and "pub" in line):
+        for match in re.finditer(r'^( *)(pub )?(?:extern "C" )?fn ([a-z_0-9]+).*\n(?:(?!\1}).*\n)*', text, flags=re.M):
+            name = match[3]
+            if name == "main" or (match[2] and path.parts[1] in OPEN_CRATES):
                 continue
-            if not any(re.search(rf"(?<!fn )\b{match[1]}\b", text) for text in bare.values()):
-                yield f"{path}:{number}: nothing calls {match[1]}"
+            names = {name, *re.findall(rf"use [^;]*::{name} as (\w+);", uses)}
+            outside = (bare[other] if other != path else bare[path].replace(re.sub(r"//.*", "", match[0]), "", 1) for other in code)
+            if not re.search(rf"(?<!fn )\b(?:{'|'.join(names)})\b\s*\(", "\n".join(outside)):
+                yield f"{path}:{text[:match.start()].count(chr(10)) + 1}: nothing calls {name}"
 
 
 def crates_unused(root, files, code):
@@ -161,7 +177,7 @@ def headers_wrong(files):
             if not file.text.startswith(f"-- `{name}`"):
                 yield f"{file.path}:1: the first line does not name {name}"
         for number, line in enumerate(file.text.split("\n"), 1):
-            if re.match(r"\s*-- \S*\.rt:\d+", line):
+            if re.search(r"--.*\.rt:\d+", line):
                 yield f"{file.path}:{number}: a position in the code"
 
 
@@ -175,10 +191,9 @@ def pages_stale(root, files, code):
 
 
 def untidy(root):
-    files = [Logic(path, root) for path in sorted(root.glob("crates/*/**/*.antt")) if "target" not in path.parts]
+    files = [Logic(path, root) for path in sorted(root.glob("crates/*/**/*.antt")) if "target" not in path.relative_to(root).parts]
     code = {path.relative_to(root): path.read_text() for path in sorted(root.glob("crates/*/src/**/*.rt"))}
-    spans = re.findall(r"`([^`\n]+)`", "\n".join(page.read_text() for page in sorted(root.glob("docs/*.md"))))
-    pages = set(words("\n".join(spans)))
+    pages = set(words("\n".join(re.findall(r"`([^`\n]+)`", (root / "docs/PROOFS.md").read_text()))))
     yield from names_uncited(files, code, pages)
     yield from imports_unused(files, code)
     yield from functions_uncalled(code)

@@ -60,16 +60,17 @@ kindText A1 = 65 ∷ digit 1 ∷ []
 kindText I3 = 73 ∷ digit 3 ∷ []
 kindText I1 = 73 ∷ digit 1 ∷ []
 
--- "Answer: kind, key, 0, rating, first term, second term (`-` for impact), shifts, mark (`=` or `L`).": what follows the key
+-- "second term (`-` for impact)"
 unfoldable pub termText : Term → List ℕ
 termText (Given d) = numberText (d .0)
 termText Absent = hyphen ∷ []
 
--- 76 is L, 61 is =
+-- "mark (`=` or `L`)": 76 is L, 61 is =
 abbrev pub setText : Bool → List ℕ
 setText true = 76 ∷ []
 setText false = 61 ∷ []
 
+-- "Answer: kind, key, 0, rating, first term, second term (`-` for impact), shifts, mark (`=` or `L`).": what follows the key
 abbrev pub sheetFields : Sheet → List (List ℕ)
 sheetFields s =
     (digit 0 ∷ []) ∷ numberText (s .rating .0) ∷ numberText (s .first .0) ∷ termText (s .second) ∷ decimal (s .shifts) ∷ setText (s .limit) ∷ []

@@ -1,4 +1,4 @@
--- What each walk over the bands adds: tests over all bands, sums, the least. One law for the start, one for a turn and one for
+-- What each walk over the bands adds: sums, totals of deficits, the least. One law for the start, one for a turn and one for
 -- the way out of each loop. Assumes nothing.
 use mathlib.Core.Path.{_≡_, refl, sym, _∙_, ap, ap₂, subst}
 use mathlib.Core.List.{List}

@@ -1,11 +1,9 @@
 -- The paper's number and values tell an answer: answers of which they are the same are the same. So a promise about them leaves no
 -- room, and two outcomes that it allows coincide. Assumes nothing.
 use mathlib.Core.Path.{_≡_, refl, ap, sym}
-use Prim.Native.Nat.{ℕ}
-use native.Mathlib.Omega.{arith}
 use Rattle.quantity.specs.Refusals.{numberOf}
 use Rattle.quantity.specs.Answers.{flag}
-use Rattle.quantity.proofs.Answers.{number-one, flag-one, clash}
+use Rattle.quantity.proofs.Answers.{number-one, flag-one, differ}
 use Rattle.intake.specs.declared.singles.Taken.{Taken}
 use Rattle.intake.specs.declared.singles.Taken.the-variants as taken
 use Rattle.intake.specs.Taken.{takenAnswer}
@@ -32,20 +30,21 @@ use Rattle.register.specs.declared.steps.Billed.the-variants as billed
 use Rattle.register.specs.declared.totals.Owed.{Owed}
 use Rattle.register.specs.declared.totals.Owed.the-variants as owed
 use Rattle.register.specs.Registers.{billedAnswer, owedAnswer}
+use Rattle.laws.proofs.Tests.{clash}
 
 pub taken-one : (a b : Taken) → takenAnswer a ≡ takenAnswer b → a ≡ b
 taken-one (taken.Value t l) (taken.Value s m) e =
     let p : t .0 ≡ s .0 = cc in
     let q : flag l ≡ flag m = cc in
     λ i. taken.Value (record { 0 = p i }) (flag-one l m q i)
-taken-one (taken.Value t l) (taken.Refused s) e = clash (sym e)
-taken-one (taken.Refused r) (taken.Value s m) e = clash e
+taken-one (taken.Value t l) (taken.Refused s) e = differ (sym e)
+taken-one (taken.Refused r) (taken.Value s m) e = differ e
 taken-one (taken.Refused r) (taken.Refused s) e = let p : numberOf r ≡ numberOf s = cc in ap taken.Refused (number-one r s p)
 
 term-one : (a b : Term) → termOf a ≡ termOf b → termFlag a ≡ termFlag b → a ≡ b
 term-one (Given d) (Given e) p q = λ i. Given (record { 0 = p i })
-term-one (Given d) Absent p q = let z : _≡_ {A = ℕ} 0 1 = cc in absurd (omega arith)
-term-one Absent (Given e) p q = let z : _≡_ {A = ℕ} 0 1 = cc in absurd (omega arith)
+term-one (Given d) Absent p q = clash cc
+term-one Absent (Given e) p q = clash cc
 term-one Absent Absent p q = refl
 
 sheet-one : (s t : Sheet) → sheetNumbers s ≡ sheetNumbers t → s ≡ t
@@ -66,8 +65,8 @@ sheet-one s t e =
 
 pub rated-one : (a b : Rated) → ratedAnswer a ≡ ratedAnswer b → a ≡ b
 rated-one (rated.Rating s) (rated.Rating t) e = let p : sheetNumbers s ≡ sheetNumbers t = cc in ap rated.Rating (sheet-one s t p)
-rated-one (rated.Rating s) (rated.Refused t) e = clash (sym e)
-rated-one (rated.Refused r) (rated.Rating t) e = clash e
+rated-one (rated.Rating s) (rated.Refused t) e = differ (sym e)
+rated-one (rated.Refused r) (rated.Rating t) e = differ e
 rated-one (rated.Refused r) (rated.Refused s) e = let p : numberOf r ≡ numberOf s = cc in ap rated.Refused (number-one r s p)
 
 pub cover-one : (a b : Cover) → improvementAnswer a ≡ improvementAnswer b → a ≡ b
@@ -76,8 +75,8 @@ cover-one (cover.Improvement r t l) (cover.Improvement s u m) e =
     let term : t .0 ≡ u .0 = cc in
     let mark : flag l ≡ flag m = cc in
     λ i. cover.Improvement (record { 0 = rating i }) (record { 0 = term i }) (flag-one l m mark i)
-cover-one (cover.Improvement r t l) (cover.Refused s) e = clash (sym e)
-cover-one (cover.Refused r) (cover.Improvement s u m) e = clash e
+cover-one (cover.Improvement r t l) (cover.Refused s) e = differ (sym e)
+cover-one (cover.Refused r) (cover.Improvement s u m) e = differ e
 cover-one (cover.Refused r) (cover.Refused s) e = let p : numberOf r ≡ numberOf s = cc in ap cover.Refused (number-one r s p)
 
 pub graded-one : (a b : Graded) → gradedAnswer a ≡ gradedAnswer b → a ≡ b
@@ -96,20 +95,20 @@ graded-one (graded.Given g) (graded.Given h) e =
       grade = grade i;
       limit = flag-one (g .limit) (h .limit) mark i;
     })
-graded-one (graded.Given g) (graded.Refused s) e = clash (sym e)
-graded-one (graded.Refused r) (graded.Given h) e = clash e
+graded-one (graded.Given g) (graded.Refused s) e = differ (sym e)
+graded-one (graded.Refused r) (graded.Given h) e = differ e
 graded-one (graded.Refused r) (graded.Refused s) e = let p : numberOf r ≡ numberOf s = cc in ap graded.Refused (number-one r s p)
 
 pub lifted-one : (a b : Lifted) → countAnswer a ≡ countAnswer b → a ≡ b
 lifted-one (lifted.Count m) (lifted.Count n) e = let p : m ≡ n = cc in ap lifted.Count p
-lifted-one (lifted.Count m) (lifted.Refused s) e = clash (sym e)
-lifted-one (lifted.Refused r) (lifted.Count n) e = clash e
+lifted-one (lifted.Count m) (lifted.Refused s) e = differ (sym e)
+lifted-one (lifted.Refused r) (lifted.Count n) e = differ e
 lifted-one (lifted.Refused r) (lifted.Refused s) e = let p : numberOf r ≡ numberOf s = cc in ap lifted.Refused (number-one r s p)
 
 pub wrote-one : (a b : Wrote) → wroteAnswer a ≡ wroteAnswer b → a ≡ b
 wrote-one (wrote.Bytes m) (wrote.Bytes n) e = let p : m ≡ n = cc in ap wrote.Bytes p
-wrote-one (wrote.Bytes m) (wrote.Refused s) e = clash (sym e)
-wrote-one (wrote.Refused r) (wrote.Bytes n) e = clash e
+wrote-one (wrote.Bytes m) (wrote.Refused s) e = differ (sym e)
+wrote-one (wrote.Refused r) (wrote.Bytes n) e = differ e
 wrote-one (wrote.Refused r) (wrote.Refused s) e = let p : numberOf r ≡ numberOf s = cc in ap wrote.Refused (number-one r s p)
 
 pub billed-one : (a b : Billed) → billedAnswer a ≡ billedAnswer b → a ≡ b
@@ -117,12 +116,12 @@ billed-one (billed.Charged s m) (billed.Charged t n) e =
     let p : sheetNumbers s ≡ sheetNumbers t = cc in
     let q : m .0 ≡ n .0 = cc in
     λ i. billed.Charged (sheet-one s t p i) (record { 0 = q i })
-billed-one (billed.Charged s m) (billed.Refused f) e = clash (sym e)
-billed-one (billed.Refused r) (billed.Charged t n) e = clash e
+billed-one (billed.Charged s m) (billed.Refused f) e = differ (sym e)
+billed-one (billed.Refused r) (billed.Charged t n) e = differ e
 billed-one (billed.Refused r) (billed.Refused s) e = let p : numberOf r ≡ numberOf s = cc in ap billed.Refused (number-one r s p)
 
 pub owed-one : (a b : Owed) → owedAnswer a ≡ owedAnswer b → a ≡ b
 owed-one (owed.Total m) (owed.Total n) e = let p : m .0 ≡ n .0 = cc in λ i. owed.Total (record { 0 = p i })
-owed-one (owed.Total m) (owed.Refused s) e = clash (sym e)
-owed-one (owed.Refused r) (owed.Total n) e = clash e
+owed-one (owed.Total m) (owed.Refused s) e = differ (sym e)
+owed-one (owed.Refused r) (owed.Total n) e = differ e
 owed-one (owed.Refused r) (owed.Refused s) e = let p : numberOf r ≡ numberOf s = cc in ap owed.Refused (number-one r s p)

@@ -4,7 +4,7 @@
 pub use Rattle.quantity.specs.Keys.{KeyOk}
 unfoldable pub use Rattle.quantity.specs.Keys.{keyByte}
 pub use Rattle.request.specs.Texts.{Band, BandOk}
-pub use Rattle.answer.specs.Texts.{kindText}
+pub use Rattle.answer.specs.Texts.{tab, lineFeed, hyphen, point, digit, kindText}
 unfoldable pub use Rattle.answer.specs.Texts.{lineText, decimal, numberText, ratedText, noRequestText}
 unfoldable pub use Rattle.request.specs.Texts.{levelText, bandText, requestText}
 -- the request that a line is, and its answer

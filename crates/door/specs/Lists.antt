@@ -11,10 +11,11 @@ use Rattle.quantity.specs.declared.quantities.Tenths.{Tenths}
 use Rattle.quantity.specs.declared.quantities.BandSet.{BandSet}
 use Rattle.quantity.specs.declared.quantities.Reading.{Reading}
 use Rattle.quantity.specs.declared.quantities.Reading.the-variants.{Level, Limit, Missing}
+use Rattle.quantity.specs.Quantities.{tenths}
 
 -- value i of an array of tenths; 0 past its end (what lies past the stated length never matters to an answer)
 abbrev pub tenthsAt : List ℤ → ℕ → Tenths
-tenthsAt values i = record { 0 = getD values i (pos 0) }
+tenthsAt values i = tenths (getD values i (pos 0))
 
 -- the set of an array of tenths: its length is the array's, also above 16, and its marks are the low sixteen bits
 unfoldable pub setFrom : List ℤ → ℕ → BandSet

@@ -4,7 +4,7 @@ use crate::energies::energy;
 use crate::steps::reached;
 use quantity::naturals::lesser;
 ghost use mathlib.Core.Path.{_≡_};
-ghost use Prim.Native.Nat.{_+_, _≤_, _<_};
+ghost use Prim.Native.Nat.{_≤_, _<_};
 ghost use Rattle.energy.specs.Energies.{Scaled};
 ghost use Rattle.energy.specs.Means.{v, mean₃};
 

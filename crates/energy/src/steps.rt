@@ -2,7 +2,6 @@
 use crate::constants::LEVELS;
 use crate::constants::STARTS;
 ghost use mathlib.Core.Path.{_≡_};
-ghost use Prim.Native.Nat.{_+_, _<_};
 ghost use Rattle.energy.specs.Energies.{u, Summed, Thresholds, Starts};
 ghost use Rattle.energy.specs.Steps.{Reached};
 

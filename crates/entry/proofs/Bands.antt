@@ -23,7 +23,8 @@ use Rattle.rating.specs.declared.kinds.Kind.the-variants.{A3, A1, I3, I1}
 use Rattle.rating.specs.Kinds.{bandsOf, kindOf, kindNumber}
 use Rattle.rating.proofs.Numbered.{kind-of-number}
 use Rattle.entry.specs.declared.entries.Entry.{Entry}
-use Rattle.entry.specs.Entries.{valueOf, marksTo, sameValue, sameValues, sameMarks, bandsBy, bandsIn, sameBands, keptValue, nought, Call, callOf, entryOf}
+use Rattle.entry.specs.Entries.{valueOf, marksTo, sameValue, sameValues, sameMarks, bandsBy, bandsIn, sameBands, keptValue, Call, callOf, entryOf}
+use Rattle.quantity.specs.Quantities.{nought}
 
 -- ---- values, by the tests of the code in order
 below : (x y : ℤ) → ltZ x y ≡ true → leZ y x ≡ false

@@ -5,12 +5,12 @@ use mathlib.Core.Bool.{Bool, true, false, _&&_, cond}
 use mathlib.Core.List.{List}
 use Prim.Native.Nat.{ℕ, zero, suc, _+_, _*_, _%_, _^_}
 use lib.Dec.{eqb, leb, ltb}
-use lib.IntN.{ℤ, pos}
+use lib.IntN.{ℤ}
 use lib.Signed.{leZ}
 use lib.ListN.{length, getD, take, replicate}
 use Rattle.laws.specs.Lists.{listed}
 use Rattle.quantity.specs.Keys.{keyShape}
-use Rattle.quantity.specs.Quantities.{priced}
+use Rattle.quantity.specs.Quantities.{priced, nought}
 use Rattle.quantity.specs.declared.quantities.Tenths.{Tenths}
 use Rattle.quantity.specs.declared.quantities.BandSet.{BandSet}
 use Rattle.laws.specs.Tests.{allTo}
@@ -31,7 +31,7 @@ keyOf e = take (e .length) (e .key)
 
 -- band i, counted from 0, in tenths
 abbrev pub valueOf : Entry → ℕ → ℤ
-valueOf e i = getD (e .values) i (record { 0 = pos 0 }) .0
+valueOf e i = getD (e .values) i nought .0
 
 -- the bands as rating takes them
 abbrev pub setOf : Kind → Entry → BandSet
@@ -104,9 +104,6 @@ pub record Call : Type 0 where
 
 abbrev pub callOf : ℕ → List ℕ → Kind → BandSet → ℕ → Call
 callOf customer key kind set price = record { customer = customer; key = key; kind = kind; set = set; price = price }
-
-abbrev pub nought : Tenths
-nought = record { 0 = pos 0 }
 
 -- value i of the first n; zero past them
 abbrev pub keptValue : BandSet → ℕ → ℕ → Tenths

@@ -4,7 +4,7 @@ use mathlib.Core.Bool.{Bool, true, false, cond}
 use mathlib.Core.List.{[], _∷_}
 use lib.IntN.{ℤ}
 use lib.Ieee.{Float, nan, inf, fin}
-use Rattle.quantity.specs.Quantities.{inRange}
+use Rattle.quantity.specs.Quantities.{inRange, tenths}
 use Rattle.quantity.specs.Refusals.{numberOf}
 use Rattle.quantity.specs.Answers.{Answer, flag}
 use Rattle.quantity.specs.Answers.Answer.{refused, numbers}
@@ -17,7 +17,7 @@ use Rattle.intake.specs.Nearest.{nearest}
 
 -- "The range is tested after that."
 abbrev pub ranged : Bool → ℤ → Taken
-ranged limit t = cond (inRange t) (Value (record { 0 = t }) limit) (Refused BandRange)
+ranged limit t = cond (inRange t) (Value (tenths t) limit) (Refused BandRange)
 
 -- "It becomes the tenth nearest its exact binary value, a tie going to the greater."
 unfoldable pub floatTaken : Bool → Float → Taken

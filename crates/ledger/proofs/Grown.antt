@@ -18,7 +18,7 @@ use Rattle.laws.specs.Sums.{sumTo}
 use Rattle.laws.proofs.Sums.{sum-same, sum-more}
 use Rattle.laws.proofs.Tests.{both-made}
 use Rattle.quantity.specs.Keys.{keyShape}
-use Rattle.quantity.specs.Quantities.{bandOf}
+use Rattle.quantity.specs.Quantities.{bandOf, nought}
 use Rattle.quantity.specs.declared.quantities.BandSet.{BandSet}
 use Rattle.quantity.specs.declared.quantities.Tenths.{Tenths}
 use Rattle.quantity.proofs.Shapes.{key-shape}
@@ -36,7 +36,7 @@ use Rattle.rating.proofs.Numbered.{kind-of-number}
 use Rattle.rating.proofs.Theorems.{past-length}
 use Rattle.entry.specs.declared.entries.Entry.{Entry}
 use Rattle.register.specs.declared.registers.Register.{Register}
-use Rattle.entry.specs.Entries.{keyOf, setOf, sameText, sameKey, sameBands, isSheet, ratable, entryOk, Call, nought, keptValue, entryOf, noEntry}
+use Rattle.entry.specs.Entries.{keyOf, setOf, sameText, sameKey, sameBands, isSheet, ratable, entryOk, Call, keptValue, entryOf, noEntry}
 use Rattle.register.specs.Registers.{opened, entryAt, repeated, sound, known, held, withEntry, dueOf, afterBy, afterOf, Due}
 use Rattle.ledger.specs.Histories.{sameCaller}
 use Rattle.ledger.proofs.Sameness.{bit-mod}

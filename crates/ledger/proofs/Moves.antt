@@ -9,7 +9,7 @@ use native.Mathlib.Omega.{arith}
 use lib.Dec.{eqb}
 use lib.ListN.{length, set, replicate, drop, length-append, length-replicate}
 use lib.Seq.{drop-cons, append-snoc, set-at, set-append-seam}
-use Rattle.laws.proofs.Tests.{refuted, sure}
+use Rattle.laws.proofs.Tests.{refuted, sure, clash}
 use Rattle.quantity.specs.declared.quantities.Fen.{Fen}
 use Rattle.quantity.specs.declared.refusals.Refusal.{Refusal}
 use Rattle.entry.specs.declared.entries.Entry.{Entry}
@@ -128,14 +128,14 @@ module _ (r : Register) (customer : ℕ) where
       sure (sound r)
       (λ h.
       let d = owed-damaged r customer h in
-      let z : _≡_ {A = ℕ} 0 1 = cc in omega arith)
+      clash cc)
 
   refused-damaged : (f : Refusal) → owedOf r customer ≡ Refused f → sound r ≡ false
   refused-damaged f e =
       refuted (sound r)
       (λ h.
       let d = owed-total r customer (record { 0 = totalIn r customer }) h refl in
-      let z : _≡_ {A = ℕ} 0 1 = cc in omega arith)
+      clash cc)
 
   -- "Refusals: 19, the register unchanged"
   pub closed-refused : (f : Refusal) → owedOf r customer ≡ Refused f → closedOf r customer ≡ r

@@ -11,7 +11,7 @@ use borrow.Author.Tests.{lt-ltb, leb-true}
 use lib.Dec.{eqb, leb}
 use lib.ListN.{length}
 use lib.Seq.{length-take-le}
-use Rattle.laws.proofs.Tests.{never, refuted, both}
+use Rattle.laws.proofs.Tests.{never, refuted, both, clash}
 use Rattle.quantity.specs.Keys.{keyShape}
 use Rattle.quantity.specs.Quantities.{priced}
 use Rattle.quantity.specs.Refusals.{numberOf}
@@ -215,8 +215,7 @@ rated-number k s n e = by-length (eqb (s .len) (bandsOf k)) refl
     by-range : eqb (s .len) (bandsOf k) ≡ true → (b : Bool) → accepted s (bandsOf k) ≡ b → numberOf n ≤ 4
     by-range p true q =
         let c : Rating (sheetOf k s) ≡ Refused n = sym (λ i. asked (p i) (asked (q i) (Rating (sheetOf k s)) (Refused BandRange)) (Refused BandCount)) ∙ e in
-        let z : _≡_ {A = ℕ} 0 1 = cc in
-        absurd (omega arith)
+        clash cc
     by-range p false q =
         let c : Refused BandRange ≡ Refused n = sym (λ i. asked (p i) (asked (q i) (Rating (sheetOf k s)) (Refused BandRange)) (Refused BandCount)) ∙ e in
         let d : BandRange ≡ n = cc in
@@ -249,12 +248,10 @@ damaged-bill r x e = go (seen r x)
         why-damaged n w (ap numberOf q)
     go (retried sheet t h d) =
         let c : billed.Charged sheet (record { 0 = 0 }) ≡ billed.Refused RegisterDamaged = sym (billed-is r x d) ∙ e in
-        let z : _≡_ {A = ℕ} 0 1 = cc in
-        absurd (omega arith)
+        clash cc
     go (added sheet t k room d) =
         let c : billed.Charged sheet (record { 0 = x .price }) ≡ billed.Refused RegisterDamaged = sym (billed-is r x d) ∙ e in
-        let z : _≡_ {A = ℕ} 0 1 = cc in
-        absurd (omega arith)
+        clash cc
 
 -- 19 is given only to a register that no calls could have left so
 pub nineteen-right : (r : Register) (x : Call) → billedOf r x ≡ billed.Refused RegisterDamaged → CouldBeLeft r → ⊥

@@ -33,6 +33,7 @@ use Rattle.line.proofs.Placing.{reply-text}
 use Rattle.line.proofs.Turns.{feed-most, pieceOf, Found, found, Came, came}
 use Rattle.line.proofs.Runs.{by-turns}
 use Rattle.line.proofs.Feeds.{feeds, feeds-join, decimal-feeds, kind-feeds, key-feeds, minus-feeds, Plain, line-feeds, feed-before, feed-behind, request-end, lines-first, lines-last, lines-begun, after-none, after-first, restBy}
+use Rattle.laws.proofs.Tests.{clash}
 
 -- ---- a line that is no request, and one that is
 -- a request ends at its first line feed and is short
@@ -279,7 +280,7 @@ run-means (part pending future skip room out r) =
     ∙ sym (block-means pending room skip false future (λ e. absurd (never e)))
   where
     never : _≡_ {A = Bool} false true → ⊥
-    never e = let z : _≡_ {A = ℕ} 0 1 = cc in omega arith
+    never e = clash cc
 run-means (end pending skip room out r) =
     ap (λ (l : List ℕ). blockOf pending room skip true .text ++ l) (run-means r) ∙ sym (block-means pending room skip true [] (λ e. refl))
 

@@ -23,6 +23,7 @@ use Rattle.line.specs.Answers.{fitsAt, placed, wroteOf}
 use Rattle.line.specs.Blocks.{oneMore, feedIn, movedBy, feedAfter, restPiece, feedPiece, pieceAt, Step, skipBy, answerBy, stepAt, Turned}
 use Rattle.request.proofs.Stands.{fits}
 use Rattle.request.proofs.Wholes.{RequestGood, request-ok, text-length}
+use Rattle.laws.proofs.Tests.{clash}
 
 -- ---- the next line feed
 pub feed-cons : (b : ℕ) (s : List ℕ) (t : Bool) → eqb b 10 ≡ t → feedIn (b ∷ s) ≡ cond t 1 (oneMore (feedIn s))
@@ -275,7 +276,7 @@ module _ (s : List ℕ) (at : ℕ) (out : List ℕ) (w : ℕ) (skipping last : B
           go : (t : Bool) → leb (w + length text) (length out) ≡ t → Turned step out w (record { next = at; wrote = w; skipping = false }) after
           go true h =
               let q : wrote.Refused r ≡ wrote.Bytes (length text) = sym f ∙ fitting true h in
-              let n : _≡_ {A = ℕ} 0 1 = cc in absurd (omega arith)
+              clash cc
           go false h =
               subst (λ (l : List ℕ). Turned step out w (record { next = at; wrote = w; skipping = false }) l) (sym (placing false h))
               (by-step still (record { next = at; wrote = w; skipping = false }) out
@@ -290,7 +291,7 @@ module _ (s : List ℕ) (at : ℕ) (out : List ℕ) (w : ℕ) (skipping last : B
               → (w + n ≤ length out) × Turned step out w (record { next = p .next; wrote = w + n; skipping = p .skipping }) after
           go false h =
               let q : wrote.Bytes n ≡ wrote.Refused NoRoom = sym f ∙ fitting false h in
-              let k : _≡_ {A = ℕ} 0 1 = cc in absurd (omega arith)
+              clash cc
           go true h =
               let fit : w + length text ≤ length out = leb-true (w + length text) (length out) h in
               let q : wrote.Bytes n ≡ wrote.Bytes (length text) = sym f ∙ fitting true h in

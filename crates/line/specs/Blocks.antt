@@ -11,6 +11,7 @@ use Rattle.line.specs.declared.blocks.Progress.{Progress}
 use Rattle.answer.specs.Texts.{lineFeed}
 use Rattle.reply.specs.Answers.{replyAt, replyText}
 use Rattle.line.specs.Answers.{answersOf}
+use Rattle.laws.specs.Lists.{front}
 
 -- how many bytes stand in front up to and with the first line feed; 0 where there is none
 abbrev pub oneMore : ℕ → ℕ
@@ -100,7 +101,7 @@ pub record Answered (block : Block) (input before : List ℕ) (r : Progress) (af
   pub used : r .used ≡ block .used
   pub wrote : r .wrote ≡ length (block .text)
   pub skipping : r .skipping ≡ block .skipping
-  pub out : after ≡ block .text ++ drop (length (block .text)) before
+  pub out : after ≡ front (block .text) before
   pub within : r .used ≤ length input
   pub fits : r .wrote ≤ length before
 

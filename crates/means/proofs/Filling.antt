@@ -13,7 +13,7 @@ use lib.Seq.{getD-set-same, getD-set-other, ext-getD}
 use Rattle.laws.specs.Lists.{listed}
 use Rattle.laws.proofs.Lists.{length-listed, listed-at}
 use Rattle.quantity.specs.declared.quantities.Tenths.{Tenths}
-use Rattle.measurement.specs.Lists.{nought}
+use Rattle.quantity.specs.Quantities.{nought}
 
 -- of k places the first n hold f, the rest 0
 pub record Filled (f : ℕ → Tenths) (k : ℕ) (out : List Tenths) (n : ℕ) : Type 0 where

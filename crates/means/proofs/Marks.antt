@@ -12,6 +12,7 @@ use lib.Pow.{pow-add, pow-mono, shl-shr, mod-pow-add}
 use Rattle.measurement.specs.Lists.{weightOf}
 use Rattle.laws.specs.Tests.{bit}
 use Rattle.means.specs.Sets.{marksTo}
+use Rattle.measurement.proofs.Runs.{weight-most}
 
 pub first-marked : (a b c : Bool) → a ≡ true → true ≡ a || (b || c)
 first-marked a b c e = rw e refl
@@ -21,10 +22,6 @@ second-marked a b c e f = rw (e, f) refl
 
 pub third-marked : (a b c r : Bool) → a ≡ false → b ≡ false → r ≡ c → r ≡ a || (b || c)
 third-marked a b c r e f g = rw (e, f) g
-
-weight-most : (b : Bool) (n : ℕ) → weightOf b n ≤ 2 ^ n
-weight-most true n = omega arith
-weight-most false n = omega arith
 
 -- a mark above bit j leaves the remainder by 2 ^ j
 raised : (m : ℕ) (b : Bool) (n j : ℕ) → j ≤ n → (m + weightOf b n) % 2 ^ j ≡ m % 2 ^ j

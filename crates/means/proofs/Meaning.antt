@@ -9,14 +9,14 @@ use borrow.Author.Tests.{lt-ltb}
 use lib.Dec.{ltb}
 use lib.IntN.{ℤ}
 use Rattle.laws.proofs.Lists.{listed-at}
-use Rattle.quantity.specs.Quantities.{inRange, bandOf, tenths}
+use Rattle.quantity.specs.Quantities.{inRange, bandOf, tenths, nought}
 use Rattle.quantity.specs.declared.quantities.Tenths.{Tenths}
 use Rattle.quantity.specs.declared.quantities.BandSet.{BandSet}
 use Rattle.quantity.specs.declared.quantities.Reading.{Reading}
 use Rattle.quantity.specs.declared.refusals.Outcome.the-variants.{Accepted}
 use Rattle.measurement.specs.declared.lists.Readings.{Readings}
 use Rattle.measurement.specs.declared.lists.Intake.{Intake}
-use Rattle.measurement.specs.Lists.{nought, allOf, refusalIn}
+use Rattle.measurement.specs.Lists.{allOf, refusalIn}
 use Rattle.measurement.proofs.Runs.{outcome-is}
 use Rattle.curve.specs.Bands.{accepted}
 use Rattle.laws.specs.Tests.{bit}

@@ -10,7 +10,7 @@ use lib.Dec.{ltb}
 use lib.IntN.{ℤ}
 use lib.ListN.{getD, set, replicate}
 use Rattle.laws.specs.Lists.{listed}
-use Rattle.quantity.specs.Quantities.{inRange, bandOf, tenths}
+use Rattle.quantity.specs.Quantities.{inRange, bandOf, tenths, nought}
 use Rattle.quantity.specs.declared.quantities.Tenths.{Tenths}
 use Rattle.quantity.specs.declared.quantities.BandSet.{BandSet}
 use Rattle.quantity.specs.declared.quantities.Reading.{Reading}
@@ -19,7 +19,7 @@ use Rattle.quantity.specs.declared.refusals.Refusal.the-variants.{BandCount, Ba
 use Rattle.quantity.specs.declared.refusals.Outcome.the-variants.{Accepted, Refused}
 use Rattle.measurement.specs.declared.lists.Readings.{Readings}
 use Rattle.measurement.specs.declared.lists.Intake.{Intake}
-use Rattle.measurement.specs.Lists.{weightOf, nought, allOf, refusedList}
+use Rattle.measurement.specs.Lists.{weightOf, allOf, refusedList}
 use Rattle.measurement.proofs.Runs.{outcome-is, accepted-is}
 use Rattle.measurement.proofs.Meaning.{value-range}
 use Rattle.curve.specs.Bands.{accepted}

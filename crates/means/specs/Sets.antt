@@ -7,7 +7,7 @@ use lib.Dec.{eqb, ltb}
 use lib.IntN.{ℤ, pos}
 use lib.ListN.{getD}
 use Rattle.laws.specs.Lists.{listed}
-use Rattle.quantity.specs.Quantities.{bandOf, tenths}
+use Rattle.quantity.specs.Quantities.{bandOf, tenths, nought}
 use Rattle.quantity.specs.declared.quantities.Tenths.{Tenths}
 use Rattle.quantity.specs.declared.quantities.BandSet.{BandSet}
 use Rattle.quantity.specs.declared.quantities.Reading.{Reading}
@@ -16,7 +16,7 @@ use Rattle.quantity.specs.declared.refusals.Outcome.{Outcome}
 use Rattle.quantity.specs.declared.refusals.Outcome.the-variants.{Accepted, Refused}
 use Rattle.measurement.specs.declared.lists.Readings.{Readings}
 use Rattle.measurement.specs.declared.lists.Intake.{Intake}
-use Rattle.measurement.specs.Lists.{weightOf, nought, allOf, refusedList}
+use Rattle.measurement.specs.Lists.{weightOf, allOf, refusedList}
 use Rattle.curve.specs.Bands.{accepted}
 use Rattle.laws.specs.Tests.{bit}
 use Rattle.rating.specs.declared.kinds.Kind.the-variants.{A3, A1}

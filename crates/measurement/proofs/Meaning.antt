@@ -12,7 +12,7 @@ use lib.Dec.{eqb}
 use lib.Ieee.{nan}
 use lib.ListN.{getD}
 use lib.Pow.{pow-add, pow-pos, pow-mono}
-use Rattle.quantity.specs.Quantities.{inRange, bandOf}
+use Rattle.quantity.specs.Quantities.{inRange, bandOf, nought}
 use Rattle.quantity.specs.declared.quantities.Tenths.{Tenths}
 use Rattle.quantity.specs.declared.quantities.BandSet.{BandSet}
 use Rattle.quantity.specs.declared.quantities.Reading.{Reading}
@@ -25,7 +25,7 @@ use Rattle.intake.specs.declared.singles.Taken.the-variants as one
 use Rattle.quantity.specs.declared.refusals.Outcome.{Outcome}
 use Rattle.quantity.specs.declared.refusals.Outcome.the-variants.{Accepted, Refused}
 use Rattle.measurement.specs.declared.lists.Intake.{Intake}
-use Rattle.measurement.specs.Lists.{takenAt, nought, valueOf, limitOf, outcomeOf, refusalIn, weightOf, marksIn, valuesIn, setOf, refusedList, listBy, listOf}
+use Rattle.measurement.specs.Lists.{takenAt, valueOf, limitOf, outcomeOf, refusalIn, weightOf, marksIn, valuesIn, setOf, refusedList, listBy, listOf}
 use Rattle.intake.proofs.Meaning.{taken-range}
 use Rattle.measurement.proofs.Runs.{marks-bound, value-at}
 use Rattle.laws.specs.Extremes.{one-if}

@@ -25,7 +25,13 @@ use Rattle.quantity.specs.declared.refusals.Outcome.{Outcome}
 use Rattle.quantity.specs.declared.refusals.Outcome.the-variants.{Accepted, Refused}
 use Rattle.measurement.specs.declared.lists.Readings.{Readings}
 use Rattle.measurement.specs.declared.lists.Intake.{Intake}
-use Rattle.measurement.specs.Lists.{takenAt, nought, valueOf, limitOf, outcomeOf, refusalIn, weightOf, marksIn, valueIn, valuesIn, refusedAll, refusedList, allBy, allOf, listBy, listOf}
+use Rattle.measurement.specs.Lists.{takenAt, valueOf, limitOf, outcomeOf, refusalIn, weightOf, marksIn, valueIn, valuesIn, refusedAll, refusedList, allBy, allOf, listBy, listOf}
+use Rattle.quantity.specs.Quantities.{nought}
+
+-- a mark is at most its bit
+pub weight-most : (b : Bool) (n : ℕ) → weightOf b n ≤ 2 ^ n
+weight-most true n = omega arith
+weight-most false n = omega arith
 
 module _ (readings : List Reading) where
   pub length-values : (n k : ℕ) → length (valuesIn readings n k) ≡ k
@@ -91,14 +97,10 @@ module _ (readings : List Reading) where
   unfolding marksIn
   marks-more n = ap (marksIn readings) (add-one n)
 
-  weight-bound : (b : Bool) (n : ℕ) → weightOf b n ≤ 2 ^ n
-  weight-bound true n = omega arith
-  weight-bound false n = omega arith
-
   pub marks-bound : (n : ℕ) → marksIn readings n < 2 ^ n
   unfolding marksIn
   marks-bound zero = omega arith
-  marks-bound (suc n) = omega (arith, marks-bound n, weight-bound (limitOf (takenAt readings n)) n, two-pow-succ n)
+  marks-bound (suc n) = omega (arith, marks-bound n, weight-most (limitOf (takenAt readings n)) n, two-pow-succ n)
 
   -- ---- refusals
 

@@ -13,7 +13,7 @@ use Rattle.quantity.specs.declared.quantities.Reading.{Reading}
 use Rattle.quantity.specs.declared.quantities.Reading.the-variants.{Level}
 use Rattle.quantity.specs.declared.refusals.Refusal.{Refusal}
 use Rattle.quantity.specs.declared.refusals.Refusal.the-variants.{BandCount}
-use Rattle.quantity.specs.Quantities.{bandOf}
+use Rattle.quantity.specs.Quantities.{bandOf, nought}
 use Rattle.quantity.specs.Refusals.{numberOf, orElse}
 use Rattle.quantity.specs.Answers.{Answer}
 use Rattle.quantity.specs.Answers.Answer.{refused, numbers}
@@ -28,9 +28,6 @@ use Rattle.intake.specs.Taken.{takenOf}
 -- what becomes of reading i, counted from 0 (past the end of a list `getD` gives its default, which no call asks for)
 abbrev pub takenAt : List Reading → ℕ → Taken
 takenAt readings i = takenOf (getD readings i (Level nan))
-
-abbrev pub nought : Tenths
-nought = record { 0 = pos 0 }
 
 -- the value and the mark of a reading that was taken
 abbrev pub valueOf : Taken → Tenths

@@ -19,6 +19,7 @@ use Rattle.rating.specs.Sheets.{ratedOf, decibels}
 use Rattle.lift.specs.Reach.{liftList}
 use Rattle.products.specs.declared.covers.Cover.the-variants.{Improvement}
 use Rattle.products.specs.Covers.{coverOf}
+use Rattle.quantity.specs.Quantities.{tenths, nought}
 
 -- bands from the lowest, in tenths
 abbrev pub Bands : Type 0
@@ -29,7 +30,7 @@ at x i = getD x i (pos 0)
 
 -- the same as a band set with no marks: its values, then zeros
 abbrev pub setOf : Bands → BandSet
-setOf x = record { values = map (λ (z : ℤ). record { 0 = z }) x ++ replicate (16 - length x) (record { 0 = pos 0 }); marks = 0; len = length x }
+setOf x = record { values = map tenths x ++ replicate (16 - length x) nought; marks = 0; len = length x }
 
 -- sixteen times 50.0
 abbrev pub fifties : Bands

@@ -8,13 +8,12 @@ use borrow.Author.Tests.{ne-eqb}
 use lib.Dec.{eqb}
 use lib.IntN.{ℤ, _-ℤ_}
 use Rattle.laws.proofs.Lists.{listed-at}
-use Rattle.quantity.specs.Quantities.{bandOf, tenths}
+use Rattle.quantity.specs.Quantities.{bandOf, tenths, nought}
 use Rattle.quantity.specs.declared.quantities.Tenths.{Tenths}
 use Rattle.quantity.specs.declared.quantities.BandSet.{BandSet}
 use Rattle.quantity.specs.declared.quantities.Reading.{Reading}
 use Rattle.quantity.specs.declared.refusals.Refusal.the-variants.{BandCount, BandRange}
 use Rattle.measurement.specs.declared.lists.Intake.{Intake}
-use Rattle.measurement.specs.Lists.{nought}
 use Rattle.measurement.proofs.Past.{Alike}
 use Rattle.laws.specs.Tests.{bit}
 use Rattle.rating.specs.declared.kinds.Kind.the-variants.{I3}

@@ -4,7 +4,6 @@ use mathlib.Core.Path.{_≡_, refl, sym, _∙_, ap}
 use mathlib.Core.Bool.{Bool, true, false}
 use mathlib.Core.List.{List, [], _∷_}
 use Prim.Native.Nat.{ℕ, zero, suc}
-use native.Mathlib.Omega.{arith}
 use lib.IntN.{ℤ, pos, negsuc}
 use lib.ListN.{getD}
 use Rattle.quantity.specs.declared.refusals.Refusal.{Refusal}
@@ -12,6 +11,7 @@ use Rattle.quantity.specs.declared.refusals.Refusal.the-variants.{BandCo
 use Rattle.quantity.specs.Refusals.{numberOf}
 use Rattle.quantity.specs.Answers.{flag}
 use Rattle.quantity.specs.Answers.Answer.{refused, numbers}
+use Rattle.laws.proofs.Tests.{clash}
 
 -- the refusals by their numbers, from 0; at a number that none has, any
 cases : List Refusal
@@ -58,5 +58,5 @@ pub flag-one : (s t : Bool) → flag s ≡ flag t → s ≡ t
 flag-one s t e = sym (flag-back s) ∙ ap marked e ∙ flag-back t
 
 -- values are no refusal
-pub clash : {A B : Type 0} {n : ℕ} {xs : List A} → refused n ≡ numbers xs → B
-clash e = let z : _≡_ {A = ℕ} 0 1 = cc in absurd (omega arith)
+pub differ : {A B : Type 0} {n : ℕ} {xs : List A} → refused n ≡ numbers xs → B
+differ e = clash cc

@@ -22,6 +22,9 @@ inRange z = leZ (negsuc 199) z && leZ z (pos 1500)
 abbrev pub tenths : ℤ → Tenths
 tenths z = record { 0 = z }
 
+abbrev pub nought : Tenths
+nought = tenths (pos 0)
+
 -- "rounded to a whole dB, half going up": of t tenths, the whole part of (t + 5) / 10, taken downward
 unfoldable pub halfUp : ℤ → ℤ
 halfUp t = shrZ (t +ℤ pos 5) 10
@@ -32,4 +35,4 @@ priced p = leb p 1000000
 
 -- the value of band i, counted from 0, in tenths
 abbrev pub bandOf : BandSet → ℕ → ℤ
-bandOf s i = getD (s .values) i (record { 0 = pos 0 }) .0
+bandOf s i = getD (s .values) i nought .0

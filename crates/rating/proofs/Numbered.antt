@@ -1,11 +1,11 @@
 -- Kinds by their numbers: a number is that of at most one kind, and each kind has one. Assumes nothing.
 use mathlib.Core.Path.{_≡_, refl, ap}
 use Prim.Native.Nat.{ℕ, zero, suc}
-use native.Mathlib.Omega.{arith}
 use Rattle.rating.specs.declared.kinds.Kind.{Kind}
 use Rattle.rating.specs.declared.kinds.Kind.the-variants.{A3, A1, I3, I1}
 use Rattle.rating.specs.declared.kinds.Named.the-variants.{Is, Unknown}
 use Rattle.rating.specs.Kinds.{kindOf, kindNumber}
+use Rattle.laws.proofs.Tests.{clash}
 
 -- a number that is none of the four
 pub unknown : (n : ℕ) → (n ≡ 0 → ⊥) → (n ≡ 1 → ⊥) → (n ≡ 2 → ⊥) → (n ≡ 3 → ⊥) → Unknown ≡ kindOf n
@@ -30,4 +30,4 @@ kind-number-of zero k e = ap kindNumber (same e)
 kind-number-of (suc zero) k e = ap kindNumber (same e)
 kind-number-of (suc (suc zero)) k e = ap kindNumber (same e)
 kind-number-of (suc (suc (suc zero))) k e = ap kindNumber (same e)
-kind-number-of (suc (suc (suc (suc n)))) k e = let z : _≡_ {A = ℕ} 0 1 = cc in absurd (omega arith)
+kind-number-of (suc (suc (suc (suc n)))) k e = clash cc

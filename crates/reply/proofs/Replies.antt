@@ -10,7 +10,7 @@ use lib.IntN.{ℤ}
 use lib.ListN.{length, getD, replicate, take, drop, length-append, length-drop}
 use lib.Seq.{length-take-le}
 use Rattle.quantity.specs.Keys.{byteAt}
-use Rattle.quantity.specs.Quantities.{inRange}
+use Rattle.quantity.specs.Quantities.{inRange, nought}
 use Rattle.quantity.specs.declared.quantities.Tenths.{Tenths}
 use Rattle.quantity.specs.declared.refusals.Refusal.{Refusal}
 use Rattle.quantity.specs.declared.refusals.Refusal.the-variants.{BandCount, NoReading, BandRange}
@@ -35,10 +35,11 @@ use Rattle.request.specs.Texts.Band.{missing, level}
 use Rattle.request.specs.Reading.{Bands, bandsAt, keySpan, kindAt, Asked, withBands, withKey, withKind, requestAt}
 use Rattle.request.specs.Reading.Bands.{broken, ended}
 use Rattle.request.specs.Reading.Asked.{asked}
-use Rattle.request.specs.Gathering.{nought, valueOf, faultOf, firstFault, marksOf, valuesOf, Holds, GatheredAt}
+use Rattle.request.specs.Gathering.{valueOf, faultOf, firstFault, marksOf, valuesOf, Holds, GatheredAt}
 use Rattle.reply.specs.Answers.{setOf, judgedBy, judged, judgedIn, Clean, noReply, replyTo, replyAt, replyText, Keyed}
 use Rattle.request.proofs.Stands.{Stands, fits}
 use Rattle.request.proofs.Wholes.{BandsGood, bands-ok, span-most, kind-ok, kind-two, text-length, RequestGood, request-ok}
+use Rattle.laws.proofs.Tests.{clash}
 
 sixteen : (kind : Kind) → bandsOf kind ≤ 16
 sixteen A3 = omega arith
@@ -92,7 +93,7 @@ judged-same kind bands r h =
 
 -- bands that give no refusal are in range, so that the set of them is accepted
 refused-none : (r : Refusal) → _≡_ {A = Outcome} (outcome.Refused r) outcome.Accepted → ⊥
-refused-none r e = let z : _≡_ {A = ℕ} 0 1 = cc in omega arith
+refused-none r e = clash cc
 
 none-first : (z : ℤ) (o : Outcome) → orElse (faultOf (level true z)) o ≡ outcome.Accepted → inRange z ≡ true
 none-first z o e = go (inRange z) e

@@ -24,6 +24,7 @@ use Rattle.request.proofs.Readers.{tenth-got, third-point, second-point
 use Rattle.answer.proofs.Decimals.{decimal-one, decimal-step}
 use Rattle.request.proofs.Stands.{Stands, Stood, one-more, joined, move}
 use Rattle.laws.proofs.Fronts.{snoc-length}
+use Rattle.laws.proofs.Tests.{clash}
 
 figure-step : (a b : ℕ) → b < 10 → figureText (10 * a + b) ≡ (decimal a ++ (46 ∷ [])) ++ ((48 + b) ∷ [])
 unfolding figureText
@@ -243,7 +244,7 @@ figure-digit s at m next e = go (ltb (digitAt s at) 10) refl
     go true f = ltb-true (digitAt s at) 10 f
     go false f =
         let k : _≡_ {A = Figure} Nothing (Read m next) = figure-none s at (digitAt s at) refl (ltb-false (digitAt s at) 10 f) ∙ e in
-        let z : _≡_ {A = ℕ} 0 1 = cc in absurd (omega arith)
+        clash cc
 
 -- a band that was read stands there
 pub record FoundAt (s : List ℕ) (at : ℕ) (b : Band) (next : ℕ) : Type 0 where

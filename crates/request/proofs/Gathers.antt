@@ -20,7 +20,8 @@ use Rattle.request.specs.Texts.{Band}
 use Rattle.request.specs.Reading.{Found, bandAt, Bands, bandsFrom, bandsAt}
 use Rattle.request.specs.Reading.Found.{found}
 use Rattle.request.specs.Reading.Bands.{broken, ended}
-use Rattle.request.specs.Gathering.{nought, valueOf, markOf, faultOf, firstFault, marksOf, valuesOf, fieldOf, weightBy, GatheredAt}
+use Rattle.request.specs.Gathering.{valueOf, markOf, faultOf, firstFault, marksOf, valuesOf, fieldOf, weightBy, GatheredAt}
+use Rattle.quantity.specs.Quantities.{nought}
 use Rattle.laws.specs.Extremes.{one-if}
 use Rattle.request.proofs.Leaves.{inside}
 use Rattle.request.proofs.Readers.{bands-tab, bands-broken, bands-end, bands-none}

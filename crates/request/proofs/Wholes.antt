@@ -26,6 +26,7 @@ use Rattle.request.proofs.Leaves.{inside, digit-low}
 use Rattle.request.proofs.Readers.{bands-tab, bands-broken, bands-end, bands-none, kind-A, kind-I, thirds, octaves, span-more, span-end}
 use Rattle.request.proofs.Stands.{Stands, Stood, joined, front-part, back-part, move, taken, itself}
 use Rattle.request.proofs.Exact.{FoundOk, FoundAt, band-ok, band-here}
+use Rattle.laws.proofs.Tests.{clash}
 
 -- ---- bands
 pub record BandsAt (s : List ℕ) (at : ℕ) (before all : List Band) (next : ℕ) : Type 0 where
@@ -356,7 +357,7 @@ text-of line kind key bands e = go (requestAt line 0) (request-ok line 0) e
     one k k' l l' b b' e = ((cc), (cc), (cc))
 
     never : (k : Kind) (l : List ℕ) (b : List Band) → Request.none ≡ request k l b → ⊥
-    never k l b e = let z : _≡_ {A = ℕ} 0 1 = cc in omega arith
+    never k l b e = clash cc
 
     go : (a : Asked) → RequestGood line 0 a → whole (length line) a ≡ request kind key bands → IsText line kind key bands
     go Asked.nothing g e = absurd (never kind key bands e)

@@ -4,9 +4,8 @@ use mathlib.Core.Bool.{Bool, true, false, cond}
 use mathlib.Core.List.{List, [], _∷_, _++_, map}
 use mathlib.Core.Path.{_≡_}
 use Prim.Native.Nat.{ℕ, _+_, _*_, _-_, _≤_}
-use lib.IntN.{pos}
 use lib.ListN.{length, replicate}
-use Rattle.quantity.specs.Quantities.{inRange}
+use Rattle.quantity.specs.Quantities.{inRange, nought, tenths}
 use Rattle.quantity.specs.Refusals.{orElse}
 use Rattle.quantity.specs.declared.quantities.Tenths.{Tenths}
 use Rattle.quantity.specs.declared.refusals.Refusal.the-variants.{NoReading, BandRange}
@@ -24,12 +23,9 @@ use Rattle.request.specs.Reading.Bands.{broken, ended}
 use Rattle.laws.specs.Extremes.{one-if}
 
 -- a band's value and its mark; a missing band has none
-abbrev pub nought : Tenths
-nought = record { 0 = pos 0 }
-
 abbrev pub valueOf : Band → Tenths
 valueOf missing = nought
-valueOf (level limit z) = record { 0 = z }
+valueOf (level limit z) = tenths z
 
 abbrev pub markOf : Band → Bool
 markOf missing = false

@@ -1,7 +1,7 @@
 -- Document 01, "Request and answer lines": the text of a request, as a list of bytes.
 use mathlib.Core.Bool.{Bool, true, false}
 use mathlib.Core.List.{List, [], _∷_, _++_, map}
-use Prim.Native.Nat.{ℕ, suc, _+_, _/_, _%_, _≤_}
+use Prim.Native.Nat.{ℕ, suc, _/_, _%_, _≤_}
 use lib.IntN.{ℤ, pos, negsuc}
 use Rattle.laws.specs.Parts.{P, N}
 use Rattle.rating.specs.declared.kinds.Kind.{Kind}

@@ -3,7 +3,8 @@ use Prim.Native.Nat.{_-_}
 use mathlib.Core.Path.{refl}
 use native.Mathlib.Omega.{arith}
 use Rattle.laws.proofs.Lists.{Agreed, agreed-none, agreed-set, agreed-all}
-use Rattle.entry.specs.Entries.{keptValue, nought}
+use Rattle.entry.specs.Entries.{keptValue}
+use Rattle.quantity.specs.Quantities.{nought}
 use Rattle.entry.proofs.entries.kept_values.Statement.{statement}
 use Rattle.entry.proofs.entries.kept_values.Tie as tie
 

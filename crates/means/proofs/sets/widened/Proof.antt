@@ -4,7 +4,7 @@ use mathlib.Core.Path.{_≡_, refl, subst}
 use native.Mathlib.Omega.{arith}
 use Prim.Native.Nat.{_-_, _≤_}
 use lib.ListN.{getD}
-use Rattle.measurement.specs.Lists.{nought}
+use Rattle.quantity.specs.Quantities.{nought}
 use Rattle.means.proofs.Filling.{Filled, filled-none, filled-more, filled-same}
 use Rattle.means.proofs.sets.widened.Statement.{statement}
 use Rattle.means.proofs.sets.widened.Tie as tie
