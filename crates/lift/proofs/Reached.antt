@@ -31,11 +31,12 @@ use Rattle.laws.specs.Lists.{listed}
 use Rattle.laws.proofs.Lists.{listed-at}
 
 -- ---- a less strict position has no greater deficits
+-- decibels in tenths
+abbrev ten : ℤ → ℤ
+ten z = pos 10 *ℤ z
+
 deficit-less : (sign : Bool) (p q K x : ℤ) → stricterBy sign p q → deficitBy sign q K x ≤ deficitBy sign p K x
 deficit-less true p q K x h =
-    let k : ℤ = pos 10 *ℤ K in
-    let a : ℤ = pos 10 *ℤ p in
-    let b : ℤ = pos 10 *ℤ q in
     omega (
       arith,
       le-read h,
@@ -43,17 +44,14 @@ deficit-less true p q K x h =
       times-N 10 p,
       times-P 10 q,
       times-N 10 q,
-      plus a k,
-      plus b k,
-      minus (a +ℤ k) x,
-      minus (b +ℤ k) x,
-      apart (a +ℤ k -ℤ x),
-      apart (b +ℤ k -ℤ x),
+      plus (ten p) (ten K),
+      plus (ten q) (ten K),
+      minus (ten p +ℤ ten K) x,
+      minus (ten q +ℤ ten K) x,
+      apart (ten p +ℤ ten K -ℤ x),
+      apart (ten q +ℤ ten K -ℤ x),
     )
 deficit-less false p q K x h =
-    let k : ℤ = pos 10 *ℤ K in
-    let a : ℤ = pos 10 *ℤ p in
-    let b : ℤ = pos 10 *ℤ q in
     omega (
       arith,
       le-read h,
@@ -61,11 +59,11 @@ deficit-less false p q K x h =
       times-N 10 p,
       times-P 10 q,
       times-N 10 q,
-      minus x k,
-      minus (x -ℤ k) a,
-      minus (x -ℤ k) b,
-      apart (x -ℤ k -ℤ a),
-      apart (x -ℤ k -ℤ b),
+      minus x (ten K),
+      minus (x -ℤ ten K) (ten p),
+      minus (x -ℤ ten K) (ten q),
+      apart (x -ℤ ten K -ℤ ten p),
+      apart (x -ℤ ten K -ℤ ten q),
     )
 
 within-less : (k : Kind) (x : ℕ → ℤ) (p q : ℤ) → stricterBy (airborne k) p q → T (within k x p) → T (within k x q)

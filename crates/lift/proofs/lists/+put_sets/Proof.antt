@@ -13,7 +13,7 @@ use lib.ListN.{length}
 use Rattle.laws.specs.Lists.{front}
 use Rattle.laws.proofs.Fronts.{Writing, none-written, Turn, turn, same-room, ended}
 use Rattle.curve.specs.Levels.{at}
-use Rattle.sets.specs.Gains.{joinedBy}
+use Rattle.sets.specs.Gains.{joinedBy, PartOf}
 use Rattle.sets.proofs.Joining.{below-band, sum-small, joined-end}
 use Rattle.lift.proofs.Joined.{longer-part, longer-piece}
 use Rattle.lift.proofs.lists.put_sets.Reads as put-sets
@@ -71,8 +71,10 @@ module _ (t : ℕ) where
   abbrev start : At-loop → Start
   start c = c .before .before .before
 
-  alone : (c : lts.Then1 (told t) (at-level t) put-sets.Post Inv-loop μ-loop) → c .before .before .args .more + 1 ≡ 1
-  alone c = omega (arith, c .if1 .taken)
+  -- where no more bands are to come, they are those with one band more
+  alone : (c : lts.Then1 (told t) (at-level t) put-sets.Post Inv-loop μ-loop) → let s = c .before .before in
+      from s (s .args .part .from) ≡ sets s 1 (s .args .part .from)
+  alone c = let s = c .before .before in ap (λ (n : ℕ). sets s (n + 1) (s .args .part .from)) (c .if1 .taken)
 
   in-word : (c : In-loop) → c .before .loop .i < 16
   in-word c = omega (arith, c .loop-test .taken, start (c .before) .pre .1 .1 .1 .0 .bands)
@@ -80,45 +82,49 @@ module _ (t : ℕ) where
   some : (c : In-loop) → 1 ≤ start (c .before) .args .more
   some c = omega (arith, c .before .before .if1 .left)
 
+  -- the turn in which a band is joined
+  abbrev turn-of : After-joined → At-loop
+  turn-of c = c .before .before .before
+
   -- the sets that start with band i are the next piece
   abbrev piece : After-joined → List ℕ
   piece c =
-      let s = start (c .before .before .before) in
+      let s = start (turn-of c) in
       joinedBy (at (s .args .gains .now)) (s .args .need) (s .args .bands) (s .args .more - 1 + 1) (c .joined .result .mask) (c .joined .result .from)
 
-  turned : (c : After-joined) → let l = c .before .before .before in
+  turned : (c : After-joined) → let l = turn-of c in
       Turn (from (start l) (start l .args .part .from)) (piece c) (from (start l) (l .loop .i + 1)) (start l .args .out .now) (l .loop .count) (l .loop .out)
   turned c =
-      let b = c .before .before in
-      let l = b .before .loop in
-      let s = start (b .before) in
-      let r = c .joined in
-      turn (from s (s .args .part .from)) (from s (l .i)) (s .args .out .now) (l .count) (l .out) (s .pre .1 .1 .1 .1) (l .inv .1) (piece c) (from s (l .i + 1))
-      (longer-piece (at (s .args .gains .now)) (s .args .part .mask) (l .i) (r .result .mask) (r .result .from) (r .ensures .0 .0) (r .ensures .1 .1)
-      (s .args .need) (s .args .bands) (s .args .more) (some b) (b .loop-test .taken))
+      turn _ _ _ _ _ (start (turn-of c) .pre .1 .1 .1 .1) (turn-of c .loop .inv .1) (piece c) (from (start (turn-of c)) (turn-of c .loop .i + 1))
+      (longer-piece _ _ _ _ _ (c .joined .ensures .0 .0) (c .joined .ensures .1 .1) _ _ _ (some (c .before .before)) (c .before .before .loop-test .taken))
+
+  -- with the band joined the part is a longer one
+  longer : (c : After-joined) → let r = c .joined .result in
+      PartOf (at (start (turn-of c) .args .gains .now)) (r .mask) (r .sum) (r .least) (r .from)
+  longer c =
+      let e = c .joined .ensures in
+      longer-part _ _ _ _ _ (e .0 .0) (e .1 .1) _ _ _ _ _ (start (turn-of c) .pre .1 .1 .0) (turn-of c .loop .inv .0) (in-word (c .before .before)) (e .0 .1) (e .1 .0)
 
   put-last-requires : lts.Need-put-last-requires (told t) (at-level t) put-sets.Post Inv-loop μ-loop
   put-last-requires c κs =
       let s = c .before .before .before in
-      let p = s .pre .1 in
-      (p .1 .0, (p .1 .1 .0, subst (λ (b : ℕ). length (sets s b (s .args .part .from)) ≤ length (s .args .out .now)) (alone (c .before)) (p .1 .1 .1)))
+      let p = s .pre .1 .1 in
+      (p .0, (p .1 .0, subst (λ (l : List ℕ). length l ≤ length (s .args .out .now)) (alone (c .before)) (p .1 .1)))
 
   same-length : lts.Need-same-length (told t) (at-level t) put-sets.Post Inv-loop μ-loop
   same-length c = search needs
 
   returns : lts.Need-returns (told t) (at-level t) put-sets.Post Inv-loop μ-loop
   returns c =
-      let b = c .before .before in
-      let s = b .before .before .before .before in
-      let e = sym (alone (b .before .before)) in (
-        b .put-last .ensures .0 ∙ ap (λ (n : ℕ). length (sets s n (s .args .part .from))) e,
-        b .put-last .ensures .1 ∙ ap (λ (n : ℕ). front (sets s n (s .args .part .from)) (s .args .out .now)) e,
+      let p = c .before .before .put-last in
+      let t = c .before .before .before .before in (
+        p .ensures .0 ∙ ap length (sym (alone t)),
+        p .ensures .1 ∙ ap (λ (l : List ℕ). front l (t .before .before .args .out .now)) (sym (alone t)),
       )
 
   loop-holds : lts.Need-loop-holds (told t) (at-level t) put-sets.Post Inv-loop μ-loop
   loop-holds c =
-      let s = c .before .before in
-      (le-refl (s .args .part .from), none-written (from s (s .args .part .from)) (s .args .out .now))
+      (le-refl _, none-written _ _)
 
   mul-joined : lts.Need-mul-joined (told t) (at-level t) put-sets.Post Inv-loop μ-loop
   mul-joined c = omega arith
@@ -128,24 +134,15 @@ module _ (t : ℕ) where
 
   joined-requires : lts.Need-joined-requires (told t) (at-level t) put-sets.Post Inv-loop μ-loop
   joined-requires c κs =
-      let b = c .before in
-      let l = b .before .loop in
-      let s = start (b .before) in
-      let a = s .args .part in
-      let p = s .pre .1 .1 in
-      let g = at (s .args .gains .now) in (
-        (in-word b, p .1 .0 .small (l .i)),
-        (
-          below-band g (a .mask) (a .sum) (a .least) (a .from) (p .0) (l .i) (l .inv .0),
-          sum-small g (a .mask) (a .sum) (a .least) (a .from) (p .0) (p .1 .0 .small),
-        ),
-      )
+      let l = c .before .before in
+      let p = start l .pre .1 .1 in
+      ((in-word (c .before), p .1 .0 .small (l .loop .i)), (below-band _ _ _ _ _ (p .0) _ (l .loop .inv .0), sum-small _ _ _ _ _ (p .0) (p .1 .0 .small)))
 
   sub-put-sets : lts.Need-sub-put-sets (told t) (at-level t) put-sets.Post Inv-loop μ-loop
   sub-put-sets c = some (c .before .before)
 
   mul-put-sets : lts.Need-mul-put-sets (told t) (at-level t) put-sets.Post Inv-loop μ-loop
-  mul-put-sets c = omega (arith, start (c .before .before .before) .good, turned c .room)
+  mul-put-sets c = omega (arith, start (turn-of c) .good, turned c .room)
 
   sub-put-sets-2 : lts.Need-sub-put-sets-2 (told t) (at-level t) put-sets.Post Inv-loop μ-loop
   sub-put-sets-2 c = turned c .within
@@ -158,28 +155,14 @@ module _ (t : ℕ) where
 
   put-sets-requires : lts.Need-put-sets-requires (told t) (at-level t) put-sets.Post Inv-loop μ-loop
   put-sets-requires c κs =
-      let d = c .before in
-      let b = d .before .before in
-      let l = b .before .loop in
-      let s = start (b .before) in
-      let a = s .args .part in
-      let r = d .joined in (
-        omega (arith, s .pre .0, some b),
-        (
-          omega (arith, s .pre .1 .0),
-          (
-            longer-part (at (s .args .gains .now)) (a .mask) (l .i) (r .result .mask) (r .result .from) (r .ensures .0 .0) (r .ensures .1 .1)
-                (a .sum) (a .least) (a .from) (r .result .sum) (r .result .least) (s .pre .1 .1 .0) (l .inv .0) (in-word b) (r .ensures .0 .1) (r .ensures .1 .0),
-            (s .pre .1 .1 .1 .0, turned d .lent),
-          ),
-        ),
-      )
+      let b = c .before .before .before in
+      let p = start (b .before) .pre in
+      (omega (arith, p .0, some b), (omega (arith, p .1 .0), (longer (c .before), (p .1 .1 .1 .0, turned (c .before) .lent))))
 
   add-count : lts.Need-add-count (told t) (at-level t) put-sets.Post Inv-loop μ-loop
   add-count c =
-      let p = c .before .before in
-      let d = p .before .before in
-      omega (arith, start (d .before .before .before) .good, turned d .room, p .put-sets .ensures .0)
+      let d = c .before .before .before .before in
+      omega (arith, start (turn-of d) .good, turned d .room, c .before .before .put-sets .ensures .0)
 
   add-i : lts.Need-add-i (told t) (at-level t) put-sets.Post Inv-loop μ-loop
   add-i c = omega arith
@@ -191,22 +174,17 @@ module _ (t : ℕ) where
   loop-again c =
       let p = c .before .before in
       let d = p .before .before in (
-        omega (arith, d .before .before .before .loop .inv .0),
+        omega (arith, turn-of d .loop .inv .0),
         turned d .written (p .put-sets .result) _ (p .put-sets .ensures .0) (p .put-sets .ensures .1),
       )
 
   same-length-2 : lts.Need-same-length-2 (told t) (at-level t) put-sets.Post Inv-loop μ-loop
   same-length-2 c =
-      let l = c .before .loop in
-      let s = start (c .before) in
-      same-room (from s (s .args .part .from)) (from s (l .i)) (s .args .out .now) (l .count) (l .out) (s .pre .1 .1 .1 .1) (l .inv .1)
+      same-room _ _ _ _ _ (start (c .before) .pre .1 .1 .1 .1) (c .before .loop .inv .1)
 
   returns-2 : lts.Need-returns-2 (told t) (at-level t) put-sets.Post Inv-loop μ-loop
   returns-2 c =
-      let l = c .before .loop in
-      let s = start (c .before) in
-      ended (from s (s .args .part .from)) (from s (l .i)) (s .args .out .now) (l .count) (l .out) (s .pre .1 .1 .1 .1) (l .inv .1)
-      (joined-end (at (s .args .gains .now)) (s .args .need) (s .args .bands) (s .args .more) (s .args .part .mask) (l .i) (c .loop-test .left))
+      ended _ _ _ _ _ (start (c .before) .pre .1 .1 .1 .1) (c .before .loop .inv .1) (joined-end _ _ _ _ _ _ (c .loop-test .left))
 
 pub +put-sets-spec : {M : Type 1} → statement M
 +put-sets-spec = close μ-put-sets λ t. lts.spec (told t) (at-level t) put-sets.Post Inv-loop μ-loop

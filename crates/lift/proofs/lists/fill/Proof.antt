@@ -36,10 +36,8 @@ piece c = let s = start c in joinedBy (at (s .args .gains .now)) (s .args .need)
 turned : (c : tie.In-loop Inv-loop μ-loop) → let l = c .before in
     Turn (whole (start l)) (piece l) (after (start l) (l .loop .more + 1)) (start l .args .out .now) (l .loop .count) (l .loop .out)
 turned c =
-    let l = c .before .loop in
-    let s = start (c .before) in
-    turn (whole s) (after s (l .more)) (s .args .out .now) (l .count) (l .out) (s .pre .1) (l .inv) (piece (c .before)) (after s (l .more + 1))
-    (larger-step (at (s .args .gains .now)) (s .args .need) (s .args .bands) (l .more) (omega arith))
+    let l = c .before in
+    turn _ _ _ _ _ (start l .pre .1) (l .loop .inv) (piece l) (after (start l) (l .loop .more + 1)) (larger-step _ _ _ _ (omega arith))
 
 loop-holds : tie.Need-loop-holds Inv-loop μ-loop
 loop-holds c =
@@ -61,8 +59,7 @@ part-put-sets-end c = search needs
 
 put-sets-requires : tie.Need-put-sets-requires Inv-loop μ-loop
 put-sets-requires c κs =
-    let s = start (c .before .before) in
-    (omega arith, (no-part (at (s .args .gains .now)), (s .pre .0, turned (c .before) .lent)))
+    (omega arith, (no-part _, (start (c .before .before) .pre .0, turned (c .before) .lent)))
 
 add-count : tie.Need-add-count Inv-loop μ-loop
 add-count c =
@@ -81,16 +78,11 @@ loop-again c = let p = c .before .before in turned (p .before .before) .written 
 
 same-length : tie.Need-same-length Inv-loop μ-loop
 same-length c =
-    let l = c .before .loop in
-    let s = start (c .before) in
-    same-room (whole s) (after s (l .more)) (s .args .out .now) (l .count) (l .out) (s .pre .1) (l .inv)
+    same-room _ _ _ _ _ (start (c .before) .pre .1) (c .before .loop .inv)
 
 returns : tie.Need-returns Inv-loop μ-loop
 returns c =
-    let l = c .before .loop in
-    let s = start (c .before) in
-    ended (whole s) (after s (l .more)) (s .args .out .now) (l .count) (l .out) (s .pre .1) (l .inv)
-    (larger-end (at (s .args .gains .now)) (s .args .need) (s .args .bands) (l .more) (c .loop-test .left))
+    ended _ _ _ _ _ (start (c .before) .pre .1) (c .before .loop .inv) (larger-end _ _ _ _ (c .loop-test .left))
 
 pub fill-spec : {M : Type 1} → statement M
 fill-spec =

@@ -29,17 +29,10 @@ same-length c = search needs
 returns : tie.Need-returns
 returns c =
     let l = c .before .before in
-    let b = l .before .before .before in
-    let a = b .before .before .before .before .args in
-    from-rated (a .kind) (a .set) (a .target .0) (b .rating .given .0 .0) (a .out .now) (l .lift-rated .result) (l .lift-rated .last .1 .1 .1 .1 .0)
-    (rates b) (l .lift-rated .ensures)
+    from-rated _ _ _ _ _ _ _ (rates (l .before .before .before)) (l .lift-rated .ensures)
 
 returns-2 : tie.Need-returns-2
-returns-2 c =
-    let b = c .before in
-    let a = b .before .before .before .before .args in
-    from-refused (a .kind) (a .set) (a .target .0) (b .refusal .given .0 .0) (a .out .now)
-    (sym (b .refusal .given .1) ∙ b .before .before .rate-alone .ensures)
+returns-2 c = from-refused _ _ _ _ _ (sym (c .before .refusal .given .1) ∙ c .before .before .before .rate-alone .ensures)
 
 pub lift-spec : {M : Type 1} → statement M
 lift-spec =

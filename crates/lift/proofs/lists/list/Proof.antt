@@ -10,32 +10,31 @@ use Rattle.lift.proofs.Answers.{Worked, asks-count, asks-gains, worked}
 use Rattle.lift.proofs.lists.list.Statement.{statement}
 use Rattle.lift.proofs.lists.list.Tie as tie
 
+-- how it began
+abbrev start : tie.After-numbers-of → tie.Start
+start c = c .before .before
+
 -- what the gains at the position give
-done : (c : tie.After-gains-at) → let a = c .before .before .before .before .before .before .args in
-    let n = c .before .before .before .before .numbers-of .result in
-    Worked (a .kind) (a .set) (a .target .0) (c .gains-at .result .each) (c .gains-at .result .total) (length (a .out .now)) n
+done : (c : tie.After-gains-at) → let n = c .before .before .before .before in
+    Worked (start n .args .kind) (start n .args .set) (start n .args .target .0) (c .gains-at .result .each) (c .gains-at .result .total)
+    (length (start n .args .out .now)) (n .numbers-of .result)
 done c =
-    let s = c .before .before .before .before .before .before in
-    let m = c .before .before .before .before .numbers-of in
-    worked (s .args .kind) (s .args .set) (s .pre .0) (s .args .target .0) (s .pre .1 .0) (s .pre .1 .1 .0) (m .result) (m .ensures)
-    (c .before .before .position-at .result .0) (length (s .args .out .now)) (c .gains-at .result .each) (c .gains-at .result .total)
-    (c .before .before .position-at .ensures) (s .pre .1 .1 .1) (c .gains-at .ensures)
+    let n = c .before .before .before .before in
+    let p = start n .pre in
+    worked _ _ (p .0) _ (p .1 .0) (p .1 .1 .0) _ (n .numbers-of .ensures) _ _ _ _ (c .before .before .position-at .ensures) (p .1 .1 .1) (c .gains-at .ensures)
 
 numbers-of-requires : tie.Need-numbers-of-requires
 numbers-of-requires c κs = search needs
 
 position-at-requires : tie.Need-position-at-requires
 position-at-requires c κs =
-    let s = c .before .before .before in
-    let m = c .before .numbers-of in
-    asks-count (s .args .kind) (s .args .set) (s .pre .0) (s .args .target .0) (s .pre .1 .0) (s .pre .1 .1 .0) (m .result) (m .ensures)
+    let s = start (c .before) in
+    asks-count _ _ (s .pre .0) _ (s .pre .1 .0) (s .pre .1 .1 .0) _ (c .before .numbers-of .ensures)
 
 gains-at-requires : tie.Need-gains-at-requires
 gains-at-requires c κs =
-    let s = c .before .before .before .before .before in
-    let m = c .before .before .before .numbers-of in
-    asks-gains (s .args .kind) (s .args .set) (s .pre .0) (s .args .target .0) (s .pre .1 .0) (s .pre .1 .1 .0) (m .result) (m .ensures)
-    (c .before .position-at .result .0) (c .before .position-at .ensures)
+    let p = start (c .before .before .before) .pre in
+    asks-gains _ _ (p .0) _ (p .1 .0) (p .1 .1 .0) _ (c .before .before .before .numbers-of .ensures) _ (c .before .position-at .ensures)
 
 sub-fill : tie.Need-sub-fill
 sub-fill c = done (c .before .before .before .before) .over
@@ -52,7 +51,7 @@ returns : tie.Need-returns
 returns c =
     let f = c .before .before in
     let g = f .before .before .before .before .before .before in
-    let a = g .before .before .before .before .before .before .args in (
+    let a = start (g .before .before .before .before) .args in (
       f .fill .ensures .0 ∙ ap length (done g .list),
       f .fill .ensures .1 ∙ ap (λ (l : List ℕ). front l (a .out .now)) (done g .list),
     )

@@ -47,43 +47,39 @@ last : (c : tie.In-loop Inv-loop μ-loop) → let s = start (c .before) in
     Last (at (s .args .gains .now)) (s .args .need) (s .args .bands) (s .args .part .mask) (s .args .part .sum) (s .args .part .least) (c .before .loop .i)
 last c =
     let s = start (c .before) in
-    let p = s .args .part in
-    last-band (at (s .args .gains .now)) (s .args .need) (s .args .bands) (p .mask) (p .sum) (p .least) (p .from) (s .pre .0) (s .pre .1 .0 .bands)
-    (c .before .loop .i) (c .before .loop .inv .0) (c .loop-test .taken) (c .before .before .before .before .if1 .left)
+    last-band _ _ _ _ _ _ _ (s .pre .0) (s .pre .1 .0 .bands) _ (c .before .loop .inv .0) (c .loop-test .taken) (c .before .before .before .before .if1 .left)
 
 -- the next piece of the list: the set with band i, or nothing
 turned : (c : tie.At-loop Inv-loop μ-loop) (piece : List ℕ) → from (start c) (c .loop .i) ≡ piece ++ from (start c) (c .loop .i + 1)
     → Turn (from (start c) (start c .args .part .from)) piece (from (start c) (c .loop .i + 1)) (start c .args .out .now) (c .loop .count) (c .loop .out)
 turned c piece =
-    let s = start c in
-    turn (from s (s .args .part .from)) (from s (c .loop .i)) (s .args .out .now) (c .loop .count) (c .loop .out) (s .pre .1 .1) (c .loop .inv .1)
-    piece (from s (c .loop .i + 1))
+    turn _ _ _ _ _ (start c .pre .1 .1) (c .loop .inv .1) piece (from (start c) (c .loop .i + 1))
 
 listed : (c : tie.Then3 Inv-loop μ-loop) → let l = c .before .before .before .before .before in
     Turn (from (start l) (start l .args .part .from)) (word l ∷ []) (from (start l) (l .loop .i + 1)) (start l .args .out .now) (l .loop .count) (l .loop .out)
 listed c =
-    let b = c .before .before .before .before in
-    turned (b .before) (word (b .before) ∷ []) (last b .listed (omega (arith, c .before .before .if2 .taken)) (c .if3 .taken))
+    let l = c .before .before .before .before .before in
+    turned l (word l ∷ []) (last (c .before .before .before .before) .listed (omega (arith, c .before .before .if2 .taken)) (c .if3 .taken))
 
 -- the band is passed where the set with it is not listed
 passed : (c : tie.Joined2 Inv-loop μ-loop) → let l = c .before .before .before in
     c .if2 .count ≡ l .loop .count → c .if2 .out ≡ l .loop .out → from (start l) (l .loop .i) ≡ from (start l) (l .loop .i + 1)
     → Next l (c .if2 .count) (c .if2 .out)
 passed c n o e =
-    let l = c .before .before .before in
-    subst (λ (m : ℕ). Next l m (c .if2 .out)) (sym n) (subst (Next l (l .loop .count)) (sym o) (turned l [] e .left))
+    subst (λ (m : ℕ). Next (c .before .before .before) m (c .if2 .out)) (sym n)
+    (subst (Next (c .before .before .before) _) (sym o) (turned (c .before .before .before) [] e .left))
 
 same : (c : tie.At-loop Inv-loop μ-loop) → length (c .loop .out) ≡ length (start c .args .out .now)
 same c =
-    let s = start c in
-    same-room (from s (s .args .part .from)) (from s (c .loop .i)) (s .args .out .now) (c .loop .count) (c .loop .out) (s .pre .1 .1) (c .loop .inv .1)
+    same-room _ _ _ _ _ (start c .pre .1 .1) (c .loop .inv .1)
+
+-- nothing is listed where the part makes up what is needed
+nothing : (c : tie.Then1 Inv-loop μ-loop) → from (c .before .before) (c .before .before .args .part .from) ≡ []
+nothing c = last-none _ _ _ _ _ _ _ (c .before .before .pre .0) (c .before .before .pre .1 .0 .bands) (c .if1 .taken)
 
 returns : tie.Need-returns Inv-loop μ-loop
 returns c =
-    let s = c .before .before in
-    let p = s .args .part in
-    let none = last-none (at (s .args .gains .now)) (s .args .need) (s .args .bands) (p .mask) (p .sum) (p .least) (p .from) (s .pre .0) (s .pre .1 .0 .bands) (c .if1 .taken) in
-    (ap length (sym none), ap (λ (l : List ℕ). front l (s .args .out .now)) (sym none))
+    (ap length (sym (nothing c)), ap (λ (l : List ℕ). front l (c .before .before .args .out .now)) (sym (nothing c)))
 
 sub-left : tie.Need-sub-left Inv-loop μ-loop
 sub-left c = omega arith
@@ -91,13 +87,11 @@ sub-left c = omega arith
 add-bound : tie.Need-add-bound Inv-loop μ-loop
 add-bound c =
     let s = c .before .before .before .before in
-    let p = s .args .part in
-    omega (arith, s .pre .1 .0 .needed, least-small (at (s .args .gains .now)) (p .mask) (p .sum) (p .least) (p .from) (s .pre .0))
+    omega (arith, s .pre .1 .0 .needed, least-small _ _ _ _ _ (s .pre .0))
 
 loop-holds : tie.Need-loop-holds Inv-loop μ-loop
 loop-holds c =
-    let s = c .before .before .before .before in
-    (le-refl (s .args .part .from), none-written (from s (s .args .part .from)) (s .args .out .now))
+    (le-refl _, none-written _ _)
 
 mul-if2 : tie.Need-mul-if2 Inv-loop μ-loop
 mul-if2 c = omega arith
@@ -119,8 +113,7 @@ shl-out c = omega (arith, in-word (c .before .before .before .before))
 
 add-out : tie.Need-add-out Inv-loop μ-loop
 add-out c =
-    let b = c .before .before .before .before .before in
-    omega (arith, mask-fits (start (b .before) .args .part .mask) (b .before .loop .i) (in-word b) (last b .below))
+    omega (arith, mask-fits _ _ (in-word (c .before .before .before .before .before)) (last (c .before .before .before .before .before) .below))
 
 mul-out : tie.Need-mul-out Inv-loop μ-loop
 mul-out c = omega (arith, start (c .before .before .before .before .before .before) .good, listed (c .before) .room)
@@ -161,10 +154,7 @@ same-length c = same (c .before)
 
 returns-2 : tie.Need-returns-2 Inv-loop μ-loop
 returns-2 c =
-    let l = c .before .loop in
-    let s = start (c .before) in
-    ended (from s (s .args .part .from)) (from s (l .i)) (s .args .out .now) (l .count) (l .out) (s .pre .1 .1) (l .inv .1)
-    (joined-end (at (s .args .gains .now)) (s .args .need) (s .args .bands) 0 (s .args .part .mask) (l .i) (c .loop-test .left))
+    ended _ _ _ _ _ (start (c .before) .pre .1 .1) (c .before .loop .inv .1) (joined-end _ _ _ 0 _ _ (c .loop-test .left))
 
 pub put-last-spec : {M : Type 1} → statement M
 put-last-spec =
