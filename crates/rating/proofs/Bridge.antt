@@ -16,6 +16,10 @@ use Rattle.curve.proofs.Counted.{PartsOf}
 use Rattle.rating.specs.Curve.{deficitBy, startBy, shiftedBy, firstFrom}
 use Rattle.rating.specs.Numbers.{entryBy}
 
+-- decibels in tenths
+abbrev ten : ℤ → ℤ
+ten z = pos 10 *ℤ z
+
 -- position p in decibels
 abbrev pub positionBy : Bool → ℕ → ℤ
 positionBy true p = pos p -ℤ pos 24
@@ -27,22 +31,18 @@ EntryOf true K e = e + 10 * P K ≡ 240 + 10 * N K
 EntryOf false K e = e + 10 * N K ≡ 1680 + 10 * P K
 
 pub entry-parts : (sign : Bool) (K : ℤ) → bottom sign ≤ entryBy sign K → EntryOf sign K (entryBy sign K)
-entry-parts true K h = omega (arith, minus (pos 240) (pos 10 *ℤ K), times-P 10 K, times-N 10 K, apart (pos 240 -ℤ pos 10 *ℤ K))
-entry-parts false K h = omega (arith, plus (pos 1680) (pos 10 *ℤ K), times-P 10 K, times-N 10 K, apart (pos 1680 +ℤ pos 10 *ℤ K))
+entry-parts true K h = omega (arith, minus (pos 240) (ten K), times-P 10 K, times-N 10 K, apart (pos 240 -ℤ ten K))
+entry-parts false K h = omega (arith, plus (pos 1680) (ten K), times-P 10 K, times-N 10 K, apart (pos 1680 +ℤ ten K))
 
 -- the deficit at position p is 10 p less the level
 pub deficit-level : (sign : Bool) (K x : ℤ) (p entry level : ℕ) → EntryOf sign K entry → PartsOf sign x entry level
     → deficitBy sign (positionBy sign p) K x ≡ 10 * p - level
 deficit-level true K x p entry level e l =
     let X : ℤ = pos p -ℤ pos 24 in
-    let a : ℤ = pos 10 *ℤ X in
-    let b : ℤ = pos 10 *ℤ K in
-    omega (arith, minus (pos p) (pos 24), times-P 10 X, times-N 10 X, times-P 10 K, times-N 10 K, plus a b, minus (a +ℤ b) x, apart (a +ℤ b -ℤ x))
+    omega (arith, minus (pos p) (pos 24), times-P 10 X, times-N 10 X, times-P 10 K, times-N 10 K, plus (ten X) (ten K), minus (ten X +ℤ ten K) x, apart (ten X +ℤ ten K -ℤ x))
 deficit-level false K x p entry level e l =
     let Y : ℤ = pos 168 -ℤ pos p in
-    let a : ℤ = pos 10 *ℤ Y in
-    let b : ℤ = pos 10 *ℤ K in
-    omega (arith, minus (pos 168) (pos p), times-P 10 Y, times-N 10 Y, times-P 10 K, times-N 10 K, minus x b, minus (x -ℤ b) a, apart (x -ℤ b -ℤ a))
+    omega (arith, minus (pos 168) (pos p), times-P 10 Y, times-N 10 Y, times-P 10 K, times-N 10 K, minus x (ten K), minus (x -ℤ ten K) (ten Y), apart (x -ℤ ten K -ℤ ten Y))
 
 -- ---- the start: E is the sum of the entries, add what the kind adds, m ten for each band
 abbrev pub Tuned : Bool → ℕ → ℕ → ℕ → Type 0
@@ -53,23 +53,24 @@ abbrev pub SumOf : Bool → ℤ → ℕ → ℕ → Type 0
 SumOf true x E level = level + N x ≡ E + P x
 SumOf false x E level = level + P x ≡ E + N x
 
+divided : (n m : ℕ) → 0 < m → (n / m * m + n % m ≡ n) × (n % m < m)
+divided n m h = (div-add-mod' n m, mod-lt n h)
+
 pub start-is : (sign : Bool) (sum : ℤ) (E add m level : ℕ) → 0 < m → Tuned sign E add m → SumOf sign sum E level
     → startBy sign sum m ≡ positionBy sign ((level + add) / m)
 start-is true sum E add m level h t l =
     let p : ℕ = (level + add) / m in
     let q : ℤ = pos 29 -ℤ pos p in
     let w : m * (P q + p) ≡ m * (N q + 29) = ap (λ (k : ℕ). m * k) (omega (arith, minus (pos 29) (pos p))) in
-    let d : p * m + (level + add) % m ≡ level + add = div-add-mod' (level + add) m in
-    let r : (level + add) % m < m = mod-lt (level + add) h in
-    let f : q ≡ shrZ (negℤ sum) m = floor-unique m h (negℤ sum) q (record { low = omega (arith, opposite sum); high = omega (arith, opposite sum) }) in
+    let d = divided (level + add) m h in
+    let f : q ≡ shrZ (negℤ sum) m = floor-unique m h (negℤ sum) q (record { low = omega (arith, opposite sum, d); high = omega (arith, opposite sum, d) }) in
     ap (λ (z : ℤ). negℤ z +ℤ pos 5) (sym f) ∙ eq-made (omega (arith, plus (negℤ q) (pos 5), opposite q, minus (pos 29) (pos p), minus (pos p) (pos 24)))
 start-is false sum E add m level h t l =
     let p : ℕ = (level + add) / m in
     let q : ℤ = pos 173 -ℤ pos p in
     let w : m * (P q + p) ≡ m * (N q + 173) = ap (λ (k : ℕ). m * k) (omega (arith, minus (pos 173) (pos p))) in
-    let d : p * m + (level + add) % m ≡ level + add = div-add-mod' (level + add) m in
-    let r : (level + add) % m < m = mod-lt (level + add) h in
-    let f : q ≡ shrZ sum m = floor-unique m h sum q (record { low = omega arith; high = omega arith }) in
+    let d = divided (level + add) m h in
+    let f : q ≡ shrZ sum m = floor-unique m h sum q (record { low = omega (arith, d); high = omega (arith, d) }) in
     ap (λ (z : ℤ). z -ℤ pos 5) (sym f) ∙ eq-made (omega (arith, minus q (pos 5), minus (pos 173) (pos p), minus (pos 168) (pos p)))
 
 -- ---- shifts

@@ -65,13 +65,9 @@ greatest-summed x n some most =
 -- "S the sum of F(a - m), u the number of j >= 1 with H(j) <= S": of all j, in each airborne term
 pub airborne-number : (k : Kind) (x L : ℕ → ℤ) → let S = leastEnergies (less x L) (bandsOf k) in Number (λ j. leb (H j) S) (u S)
 airborne-number k x L =
-    let n : ℕ = bandsOf k in
-    let w : Summed (leastEnergies (less x L) n) = least-summed (less x L) n (count-some (count-of k)) (count-most (count-of k)) in
-    u-by-H (leastEnergies (less x L) n) (w .0) (w .1)
+    let w = least-summed (less x L) (bandsOf k) (count-some (count-of k)) (count-most (count-of k)) in u-by-H _ (w .0) (w .1)
 
 -- "S the sum of F(M - x) over all bands of the kind, u as before": in each impact term
 pub impact-number : (k : Kind) (x : ℕ → ℤ) → let S = greatestEnergies x (bandsOf k) in Number (λ j. leb (H j) S) (u S)
 impact-number k x =
-    let n : ℕ = bandsOf k in
-    let w : Summed (greatestEnergies x n) = greatest-summed x n (count-some (count-of k)) (count-most (count-of k)) in
-    u-by-H (greatestEnergies x n) (w .0) (w .1)
+    let w = greatest-summed x (bandsOf k) (count-some (count-of k)) (count-most (count-of k)) in u-by-H _ (w .0) (w .1)

@@ -118,13 +118,15 @@ module _ (k : Kind) (x y : ℕ → ℤ) (same : (i : ℕ) → i < bandsOf k → 
   unfolding ratingOf positionOf
   rating-same = ap₂ (λ (z : ℤ) (s : ℕ). shifted k z s -ℤ takenOff k) start-same shifts-same
 
-  some : 1 ≤ bandsOf k
+  abbrev n : ℕ
+  n = bandsOf k
+
+  some : 1 ≤ n
   some = count-some (count-of k)
 
   airborne-same : (L : ℕ → ℤ) → airborneTerm k x L ≡ airborneTerm k y L
   unfolding airborneTerm weighted
   airborne-same L =
-      let n : ℕ = bandsOf k in
       let a : ℕ → ℤ = less x L in
       let b : ℕ → ℤ = less y L in
       let e : (i : ℕ) → i < n → a i ≡ b i = λ i h. ap (λ (z : ℤ). less (λ j. z) L i) (same i h) in
@@ -137,7 +139,6 @@ module _ (k : Kind) (x y : ℕ → ℤ) (same : (i : ℕ) → i < bandsOf k → 
   impact-same : impactTerm k x ≡ impactTerm k y
   unfolding impactTerm
   impact-same =
-      let n : ℕ = bandsOf k in
       let m : greatestTo x (n - 1) ≡ greatestTo y (n - 1) = greatest-same x y (n - 1) (λ i h. same i (omega (arith, some))) in
       let S : sumTo (λ i. F (P (greatestTo x (n - 1) -ℤ x i))) n ≡ sumTo (λ i. F (P (greatestTo y (n - 1) -ℤ y i))) n =
       sum-same (λ i. F (P (greatestTo x (n - 1) -ℤ x i))) (λ i. F (P (greatestTo y (n - 1) -ℤ y i))) n

@@ -41,6 +41,13 @@ module _ (k : Kind) (x : ℕ → ℤ) (o p : ℕ) (some : 1 ≤ bandsOf k) where
   abbrev n : ℕ
   n = bandsOf k
 
+  -- the least level, and the tenths that all energies together stand above it
+  abbrev low : (ℕ → ℕ) → ℕ
+  low g = minTo g (n - 1)
+
+  abbrev step : (ℕ → ℕ) → ℕ
+  step g = u (sumTo (λ i. F (g i - low g)) n)
+
   -- airborne: the levels count x - 10 L from 200
   pub airborne-term : (L : ℕ → ℤ) (g : ℕ → ℕ) → ((i : ℕ) → i < n → Up 200 (less x L i) (g i)) → ratingOf k x ≡ ratingBy true o p
       → airborneTerm k x L ≡ termOf true o g n p
@@ -48,15 +55,13 @@ module _ (k : Kind) (x : ℕ → ℤ) (o p : ℕ) (some : 1 ≤ bandsOf k) where
   airborne-term L g h r =
       let a : ℕ → ℤ = less x L in
       let m : ℤ = leastTo a (n - 1) in
-      let l : ℕ = minTo g (n - 1) in
-      let ml : Up 200 m l = least-up 200 a g (n - 1) (λ i q. h i (omega arith)) in
-      let S : sumTo (λ i. F (P (a i -ℤ m))) n ≡ sumTo (λ i. F (g i - l)) n =
-      sum-same (λ i. F (P (a i -ℤ m))) (λ i. F (g i - l)) n
-      (λ i q. ap F (above-up 200 (a i) m (g i) l (h i q) ml (min-below g (n - 1) i (omega arith)))) in
-      let v : ℕ = u (sumTo (λ i. F (g i - l)) n) in
+      let ml : Up 200 m (low g) = least-up 200 a g (n - 1) (λ i q. h i (omega arith)) in
+      let S : sumTo (λ i. F (P (a i -ℤ m))) n ≡ sumTo (λ i. F (g i - low g)) n =
+      sum-same (λ i. F (P (a i -ℤ m))) (λ i. F (g i - low g)) n
+      (λ i q. ap F (above-up 200 (a i) m (g i) (low g) (h i q) ml (min-below g (n - 1) i (omega arith)))) in
       let R : ℤ = pos p -ℤ pos o in
       ap₂ (λ (t : ℕ) (z : ℤ). m -ℤ pos (u t) -ℤ pos 10 *ℤ z) S r
-      ∙ eq-made (omega (arith, ml, minus m (pos v), minus (pos p) (pos o), times-P 10 R, times-N 10 R, minus (m -ℤ pos v) (pos 10 *ℤ R), minus (pos (l + 10 * o)) (pos (200 + v + 10 * p))))
+      ∙ eq-made (omega (arith, ml, minus m (pos (step g)), minus (pos p) (pos o), times-P 10 R, times-N 10 R, minus (m -ℤ pos (step g)) (pos 10 *ℤ R), minus (pos (low g + 10 * o)) (pos (200 + step g + 10 * p))))
 
   -- impact: the levels count down from 1500
   pub impact-term : (g : ℕ → ℕ) → ((i : ℕ) → i < n → Down 1500 (x i) (g i)) → ratingOf k x ≡ ratingBy false o p
@@ -64,15 +69,13 @@ module _ (k : Kind) (x : ℕ → ℤ) (o p : ℕ) (some : 1 ≤ bandsOf k) where
   unfolding impactTerm leastOf energiesOf
   impact-term g h r =
       let m : ℤ = greatestTo x (n - 1) in
-      let l : ℕ = minTo g (n - 1) in
-      let ml : Down 1500 m l = greatest-down 1500 x g (n - 1) (λ i q. h i (omega arith)) in
-      let S : sumTo (λ i. F (P (m -ℤ x i))) n ≡ sumTo (λ i. F (g i - l)) n =
-      sum-same (λ i. F (P (m -ℤ x i))) (λ i. F (g i - l)) n
-      (λ i q. ap F (above-down 1500 (x i) m (g i) l (h i q) ml (min-below g (n - 1) i (omega arith)))) in
-      let v : ℕ = u (sumTo (λ i. F (g i - l)) n) in
+      let ml : Down 1500 m (low g) = greatest-down 1500 x g (n - 1) (λ i q. h i (omega arith)) in
+      let S : sumTo (λ i. F (P (m -ℤ x i))) n ≡ sumTo (λ i. F (g i - low g)) n =
+      sum-same (λ i. F (P (m -ℤ x i))) (λ i. F (g i - low g)) n
+      (λ i q. ap F (above-down 1500 (x i) m (g i) (low g) (h i q) ml (min-below g (n - 1) i (omega arith)))) in
       let R : ℤ = pos o -ℤ pos p in
       ap₂ (λ (t : ℕ) (z : ℤ). m +ℤ pos (u t) -ℤ pos 150 -ℤ pos 10 *ℤ z) S r
-      ∙ eq-made (omega (arith, ml, plus m (pos v), minus (m +ℤ pos v) (pos 150), minus (pos o) (pos p), times-P 10 R, times-N 10 R, minus (m +ℤ pos v -ℤ pos 150) (pos 10 *ℤ R), minus (pos (1350 + v + 10 * p)) (pos (l + 10 * o))))
+      ∙ eq-made (omega (arith, ml, plus m (pos (step g)), minus (m +ℤ pos (step g)) (pos 150), minus (pos o) (pos p), times-P 10 R, times-N 10 R, minus (m +ℤ pos (step g) -ℤ pos 150) (pos 10 *ℤ R), minus (pos (1350 + step g + 10 * p)) (pos (low g + 10 * o))))
 
 -- a term stays within 1000 dB
 pub term-small : (sign : Bool) (o l v p : ℕ) → o < 200 → l < 5000 → v < 500 → p < 500

@@ -13,8 +13,7 @@ bands-of-requires c κs = search needs
 
 returns : tie.Need-returns
 returns c =
-    let b = c .before .before in
-    other-count (b .before .args .kind) (b .before .args .set) (b .bands-of .result) (b .bands-of .ensures) (c .if1 .taken)
+    other-count _ _ _ (c .before .before .bands-of .ensures) (c .if1 .taken)
 
 all-in-range-requires : tie.Need-all-in-range-requires
 all-in-range-requires c κs =
@@ -23,17 +22,13 @@ all-in-range-requires c κs =
 
 returns-2 : tie.Need-returns-2
 returns-2 c =
-    let r = c .before in
-    let b = r .before .before .before in
-    out-of-range (b .before .args .kind) (b .before .args .set) (b .bands-of .result) (b .bands-of .ensures) (r .before .if1 .left)
-    (sym (r .all-in-range .ensures) ∙ not-true (r .all-in-range .result) (c .if2 .taken))
+    out-of-range _ _ _ (c .before .before .before .before .bands-of .ensures) (c .before .before .if1 .left)
+    (sym (c .before .all-in-range .ensures) ∙ not-true (c .before .all-in-range .result) (c .if2 .taken))
 
 returns-3 : tie.Need-returns-3
 returns-3 c =
-    let r = c .before in
-    let b = r .before .before .before in
-    all-fit (b .before .args .kind) (b .before .args .set) (b .bands-of .result) (b .bands-of .ensures) (r .before .if1 .left)
-    (sym (r .all-in-range .ensures) ∙ not-false (r .all-in-range .result) (c .if2 .left))
+    all-fit _ _ _ (c .before .before .before .before .bands-of .ensures) (c .before .before .if1 .left)
+    (sym (c .before .all-in-range .ensures) ∙ not-false (c .before .all-in-range .result) (c .if2 .left))
 
 pub accept-spec : {M : Type 1} → statement M
 accept-spec =

@@ -31,24 +31,18 @@ level-starts-requires c κs = search needs
 
 sheet-of-requires : tie.Need-sheet-of-requires
 sheet-of-requires c κs =
-    let t = c .before .before .before in
-    let b = t .before .before .before in
-    let a = b .before .before .before .args in (
+    let t = c .before .before .before in (
       record { scaled = t .before .before .scaled-powers .ensures; reached = t .before .level-thresholds .ensures; started = t .level-starts .ensures },
-      fit-accepted (a .kind) (a .set) (fit b),
+      fit-accepted _ _ (fit (t .before .before .before)),
     )
 
 returns : tie.Need-returns
 returns c =
-    let b = c .before in
-    let a = b .before .before .before .args in
-    unfit-rated (a .kind) (a .set) (b .refusal .given .0 .0) (sym (b .refusal .given .1) ∙ b .before .before .accept .ensures)
+    unfit-rated _ _ _ (sym (c .before .refusal .given .1) ∙ c .before .before .before .accept .ensures)
 
 returns-2 : tie.Need-returns-2
 returns-2 c =
-    let b = c .before .before .before .before .before .before .before in
-    let a = b .before .before .before .args in
-    fit-rated (a .kind) (a .set) (c .sheet-of .result) (fit b) (c .sheet-of .ensures)
+    fit-rated _ _ _ (fit (c .before .before .before .before .before .before .before)) (c .sheet-of .ensures)
 
 pub rate-spec : {M : Type 1} → statement M
 rate-spec =

@@ -12,20 +12,14 @@ sought-requires c κs = search needs
 
 rating-at-requires : tie.Need-rating-at-requires
 rating-at-requires c κs =
-    let f = c .before in
-    let n = f .before in
-    let a = n .before .args in (
-      position-small (a .kind) (a .set) (f .sought .result .at .0) (f .sought .result .shifts) (n .before .pre) (f .sought .ensures),
-      fetched (a .kind) (a .set) (n .numbers-of .result) (n .numbers-of .ensures) (n .before .pre) .sound .near,
-    )
+    let n = c .before .before in
+    let k = n .before .args .kind in
+    (position-small k _ _ _ (n .before .pre) (c .before .sought .ensures), fetched k _ _ (n .numbers-of .ensures) (n .before .pre) .sound .near)
 
 returns : tie.Need-returns
 returns c =
     let f = c .before .before in
-    let n = f .before in
-    let a = n .before .args in
-    rating-made (a .kind) (a .set) (n .before .pre) (n .numbers-of .result) (n .numbers-of .ensures) (f .sought .result .at .0) (f .sought .result .shifts)
-    (c .rating-at .result .0) (f .sought .ensures) (c .rating-at .ensures)
+    rating-made _ _ (f .before .before .pre) _ (f .before .numbers-of .ensures) _ _ _ (f .sought .ensures) (c .rating-at .ensures)
 
 pub rating-of-spec : {M : Type 1} → statement M
 rating-of-spec =

@@ -1,8 +1,15 @@
 -- `rating::sheets::sheet_of` meets its contract: what was fetched is sound, and each number of the record is the defined one.
 -- Assumes nothing.
 use borrow.Author.Needs.{needs}
+use mathlib.Core.Bool.{true}
+use mathlib.Core.Path.{_≡_}
 use Prim.Native.Nat.{_<_}
-use Rattle.rating.proofs.Sheeted.{Fetched, fetched, position-small, given, absent, sheet-made}
+use Rattle.energy.specs.Energies.{Tables}
+use Rattle.curve.specs.Bands.{accepted}
+use Rattle.curve.specs.Levels.{Count}
+use Rattle.rating.specs.declared.sheets.Term.{Term}
+use Rattle.rating.specs.Sheets.{sheetOf}
+use Rattle.rating.proofs.Sheeted.{Fetched, fetched, position-small, SecondAt, given, absent, sheet-made}
 use Rattle.rating.proofs.sheets.sheet_of.Statement.{statement}
 use Rattle.rating.proofs.sheets.sheet_of.Tie as tie
 
@@ -15,8 +22,7 @@ got c = fetched (c .before .args .kind) (c .before .args .set) (c .numbers-of .r
 
 small : (c : tie.After-sought) → c .sought .result .at .0 < 500
 small c =
-    let b = c .before in
-    position-small (b .before .args .kind) (b .before .args .set) (c .sought .result .at .0) (c .sought .result .shifts) (b .before .pre .1) (c .sought .ensures)
+    position-small (c .before .before .args .kind) _ _ _ (c .before .before .pre .1) (c .sought .ensures)
 
 sought-requires : tie.Need-sought-requires
 sought-requires c κs = (c .numbers-of .ensures, c .before .pre .1)
@@ -24,46 +30,48 @@ sought-requires c κs = (c .numbers-of .ensures, c .before .pre .1)
 rating-at-requires : tie.Need-rating-at-requires
 rating-at-requires c κs = (small (c .before .before), got (c .before .before .before) .sound .near)
 
+-- where the position was found
+abbrev found : tie.After-marked → tie.After-sought
+found c = c .before .before .before .before .before .before
+
+-- what a term asks, but for the entries of its spectrum
+asked : (c : tie.After-sought) {E : Type 0} → E → let a = c .before .before .args in
+    let n = c .before .numbers-of .result in
+    Tables (a .powers .now) (a .thresholds .now) (a .starts .now)
+    × (Count (n .bands) × ((n .origin .0 < 200) × ((accepted (a .set) (n .bands) ≡ true) × (E × (c .sought .result .at .0 < 500)))))
+asked c e = let f = got (c .before) in (c .before .before .pre .0, (f .sound .count, (f .sound .near, (f .acc, (e, small c)))))
+
 term-of-requires : tie.Need-term-of-requires
-term-of-requires c κs =
-    let s = c .before .before .before .before in
-    let f = got (s .before) in
-    (s .before .before .pre .0, (f .sound .count, (f .sound .near, (f .acc, (f .sound .first, small s)))))
+term-of-requires c κs = asked (c .before .before .before .before) (got (c .before .before .before .before .before) .sound .first)
 
 marked-requires : tie.Need-marked-requires
 marked-requires c κs = search needs
 
 term-of-requires-2 : tie.Need-term-of-requires-2
 term-of-requires-2 c κs =
-    let s = c .before .before .before .before .before .before .before .before in
-    let f = got (s .before) in
-    (s .before .before .pre .0, (f .sound .count, (f .sound .near, (f .acc, (f .sound .second, small s)))))
+    asked (found (c .before .before)) (got (found (c .before .before) .before) .sound .second)
+
+-- the sheet is the defined one, once its second term is
+made : (c : tie.After-marked) (second : Term) → let s = found c in
+    let a = s .before .before .args in
+    SecondAt (s .before .numbers-of .result) (a .set) (s .sought .result .at .0) second
+    → record {
+      rating = c .before .before .before .rating-at .result;
+      first = c .before .term-of .result;
+      second = second;
+      shifts = s .sought .result .shifts;
+      limit = c .marked .result;
+    } ≡ sheetOf (a .kind) (a .set)
+made c second e =
+    let s = found c in
+    sheet-made (s .before .before .args .kind) _ (s .before .before .pre .1) _ (s .before .numbers-of .ensures) _ _ (s .sought .ensures) (c .marked .ensures)
+    (record { rating = c .before .before .before .rating-at .ensures; first = c .before .term-of .ensures; second = e })
 
 returns : tie.Need-returns
-returns c =
-    let m = c .before .before .before in
-    let s = m .before .before .before .before .before .before in
-    let b = s .before in
-    sheet-made (b .before .args .kind) (b .before .args .set) (b .before .pre .1) (b .numbers-of .result) (b .numbers-of .ensures) (s .sought .result .at .0) _
-    (s .sought .ensures) (m .marked .ensures)
-    (record {
-      rating = m .before .before .before .rating-at .ensures;
-      first = m .before .term-of .ensures;
-      second = given (c .term-of2 .result) (c .before .before .if1 .taken) (c .term-of2 .ensures);
-    })
+returns c = made (c .before .before .before) _ (given (c .term-of2 .result) (c .before .before .if1 .taken) (c .term-of2 .ensures))
 
 returns-2 : tie.Need-returns-2
-returns-2 c =
-    let m = c .before in
-    let s = m .before .before .before .before .before .before in
-    let b = s .before in
-    sheet-made (b .before .args .kind) (b .before .args .set) (b .before .pre .1) (b .numbers-of .result) (b .numbers-of .ensures) (s .sought .result .at .0) _
-    (s .sought .ensures) (m .marked .ensures)
-    (record {
-      rating = m .before .before .before .rating-at .ensures;
-      first = m .before .term-of .ensures;
-      second = absent (c .if1 .left);
-    })
+returns-2 c = made (c .before) _ (absent (c .if1 .left))
 
 pub sheet-of-spec : {M : Type 1} → statement M
 sheet-of-spec =

@@ -5,7 +5,7 @@ use Prim.Native.Nat.{ℕ, _+_, _*_, _/_, _≤_, _<_}
 use native.Mathlib.Omega.{arith}
 use Rattle.laws.specs.Sums.{sumTo}
 use Rattle.laws.proofs.Sums.{sum-same}
-use Rattle.curve.specs.Levels.{at, levelAt, startAt}
+use Rattle.curve.specs.Levels.{levelAt, startAt}
 use Rattle.curve.proofs.Searched.{count-most, levels-small, sum-small, start-small, settled-alike}
 use Rattle.rating.specs.Kinds.{bandsOf}
 use Rattle.rating.specs.Numbers.{startAdd}
@@ -15,72 +15,68 @@ use Rattle.rating.proofs.Sheeted.{Fetched, fetched, sought-by}
 use Rattle.rating.proofs.sheets.sought.Statement.{statement}
 use Rattle.rating.proofs.sheets.sought.Tie as tie
 
+-- how it began
+abbrev start : tie.After-sum → tie.Start
+start c = c .before .before .before .before
+
+-- the levels of the set, by the numbers lent
+abbrev level : tie.Start → ℕ → ℕ
+level b = levelAt (b .args .n .airborne) (b .args .set) (b .args .n .entries)
+
 -- the numbers lent are the kind's: sound, and the bands that they count are accepted
 got : (b : tie.Start) → Fetched (b .args .set) (b .args .n)
 got b = fetched (b .args .kind) (b .args .set) (b .args .n) (b .pre .0) (b .pre .1)
 
-levels-requires : tie.Need-levels-requires
-levels-requires c κs =
-    let f = got (c .before) in
-    (count-most (f .sound .count), (f .acc, f .sound .entries))
-
-sum-requires : tie.Need-sum-requires
-sum-requires c κs =
-    let b = c .before .before .before in
-    let f = got b in
-    let n = b .args .n in (
-      count-most (f .sound .count),
-      levels-small (n .airborne) (b .args .set) (n .entries) (n .bands) (count-most (f .sound .count)) (f .acc) (f .sound .entries) (c .before .levels .result) (c .before .levels .ensures),
-    )
+most : (b : tie.Start) → b .args .n .bands ≤ 16
+most b = count-most (got b .sound .count)
 
 -- the sum found is that of the set's levels, and small
 record Summed (c : tie.After-sum) : Type 0 where
-  is : c .sum .result ≡ sumTo (levelAt (c .before .before .before .before .args .n .airborne) (c .before .before .before .before .args .set) (c .before .before .before .before .args .n .entries)) (c .before .before .before .before .args .n .bands)
-  small : c .sum .result ≤ bandsOf (c .before .before .before .before .args .kind) * 4500
+  is : c .sum .result ≡ sumTo (level (start c)) (start c .args .n .bands)
+  small : c .sum .result ≤ bandsOf (start c .args .kind) * 4500
 
 summed : (c : tie.After-sum) → Summed c
 summed c =
-    let b = c .before .before .before .before in
-    let n = b .args .n in
-    let g = got b in
-    let f : ℕ → ℕ = levelAt (n .airborne) (b .args .set) (n .entries) in
-    let e : c .sum .result ≡ sumTo f (n .bands) =
-    c .sum .ensures ∙ sum-same (at (c .before .before .levels .result)) f (n .bands) (c .before .before .levels .ensures .each) in
+    let b = start c in
+    let e : c .sum .result ≡ sumTo (level b) (b .args .n .bands) = c .sum .ensures ∙ sum-same _ (level b) _ (c .before .before .levels .ensures .each) in
     record {
       is = e;
-      small = subst (λ (m : ℕ). c .sum .result ≤ m * 4500) (bands-are (b .args .kind) n (b .pre .0))
-          (subst (λ (m : ℕ). m ≤ n .bands * 4500) (sym e)
-          (sum-small (n .airborne) (b .args .set) (n .entries) (n .bands) (count-most (g .sound .count)) (g .acc) (g .sound .entries)));
+      small = subst (λ (m : ℕ). c .sum .result ≤ m * 4500) (bands-are (b .args .kind) (b .args .n) (b .pre .0))
+          (subst (λ (m : ℕ). m ≤ b .args .n .bands * 4500) (sym e) (sum-small _ _ (b .args .n .entries) _ (most b) (got b .acc) (got b .sound .entries)));
     }
 
+-- the start found is the set's
+started : (c : tie.After-start-of) → let b = start (c .before) in
+    c .start-of .result .0 ≡ startAt (level b) (b .args .n .bands) (startAdd (b .args .kind))
+started c =
+    let b = start (c .before) in
+    c .start-of .ensures
+    ∙ ap₂ (λ (m j : ℕ). (m + startAdd (b .args .kind)) / (10 * j)) (summed (c .before) .is) (sym (bands-are (b .args .kind) (b .args .n) (b .pre .0)))
+
+levels-requires : tie.Need-levels-requires
+levels-requires c κs = (most (c .before), (got (c .before) .acc, got (c .before) .sound .entries))
+
+sum-requires : tie.Need-sum-requires
+sum-requires c κs =
+    let s = c .before .before .before in
+    (most s, levels-small _ _ _ _ (most s) (got s .acc) (got s .sound .entries) _ (c .before .levels .ensures))
+
 start-of-requires : tie.Need-start-of-requires
-start-of-requires c κs =
-    let k = c .before .before .before .before .args .kind in
-    omega (arith, summed c .small, count-most (count-of k))
+start-of-requires c κs = omega (arith, summed c .small, count-most (count-of (start c .args .kind)))
 
 settle-requires : tie.Need-settle-requires
 settle-requires c κs =
-    let b = c .before .before .before .before .before .before in
-    let k = b .args .kind in (
-      count-most (got b .sound .count),
+    let k = start (c .before .before) .args .kind in (
+      most (start (c .before .before)),
       subst (λ (m : ℕ). m < 500) (sym (c .before .start-of .ensures))
           (start-small (bandsOf k) (c .before .before .sum .result) (startAdd k) (count-of k) (summed (c .before .before) .small) (add-small k)),
     )
 
 returns : tie.Need-returns
 returns c =
-    let b = c .before .before .before .before .before .before .before in
-    let k = b .args .kind in
-    let n = b .args .n in
-    let l = c .before .before .before .before .before .levels in
-    let s = c .before .before .start-of in
-    let f : ℕ → ℕ = levelAt (n .airborne) (b .args .set) (n .entries) in
-    sought-by k (b .args .set) n (c .settle .result .at .0) (c .settle .result .shifts) (b .pre .0)
-    (settled-alike (at (l .result)) f (n .bands) (n .limit) (s .result .0) (startAt f (n .bands) (startAdd k)) (c .settle .result .at .0) (c .settle .result .shifts)
-    (l .ensures .each)
-    (s .ensures
-    ∙ ap₂ (λ (m j : ℕ). (m + startAdd k) / (10 * j)) (summed (c .before .before .before) .is) (sym (bands-are k n (b .pre .0))))
-    (c .settle .ensures))
+    let d = c .before .before .before in
+    sought-by (start d .args .kind) (start d .args .set) _ _ _ (start d .pre .0)
+    (settled-alike _ _ _ _ _ _ _ _ (d .before .before .levels .ensures .each) (started (c .before .before)) (c .settle .ensures))
 
 pub sought-spec : {M : Type 1} → statement M
 sought-spec =

@@ -1,9 +1,7 @@
 -- `rating::sheets::term_at` meets its contract: one difference of naturals for each sign. Assumes nothing.
 use borrow.Author.Needs.{needs}
-use mathlib.Core.Path.{sym, _∙_, ap, ap₂}
+use mathlib.Core.Path.{_≡_, sym, _∙_, ap}
 use mathlib.Core.Bool.{Bool}
-use Prim.Native.Nat.{ℕ, _+_}
-use lib.IntN.{pos, _-ℤ_}
 use Rattle.quantity.proofs.Rim.{back}
 use Rattle.rating.specs.Numbers.{termBy}
 use Rattle.rating.proofs.sheets.term_at.Statement.{statement}
@@ -39,21 +37,22 @@ add-less-6 c = search needs
 less-requires-2 : tie.Need-less-requires-2
 less-requires-2 c κs = search needs
 
+-- the term by the sign that was found is that by the sign given
+signed : (s : tie.Start) {sign : Bool} → s .args .airborne ≡ sign → let a = s .args in
+    termBy sign (a .origin .0) (a .w .least) (a .w .step) (a .p .0) ≡ termBy (a .airborne) (a .origin .0) (a .w .least) (a .w .step) (a .p .0)
+signed s e = ap (λ (b : Bool). termBy b (s .args .origin .0) (s .args .w .least) (s .args .w .step) (s .args .p .0)) (sym e)
+
 returns : tie.Need-returns
 returns c =
-    let t = c .before .before .before .before in
-    let a = t .before .before .args in
-    back (c .less .result) (c .less .ok) ∙ c .less .ensures
-    ∙ ap₂ (λ (h n : ℕ). pos (a .w .least + n) -ℤ pos (200 + a .w .step + h)) (t .before .tenths .ensures) (t .tenths2 .ensures)
-    ∙ ap (λ (b : Bool). termBy b (a .origin .0) (a .w .least) (a .w .step) (a .p .0)) (sym (c .before .before .before .if1 .taken))
+    back (c .less .result) (c .less .ok)
+    ∙ (rw (c .before .before .before .before .before .tenths .ensures, c .before .before .before .before .tenths2 .ensures) at (c .less .ensures))
+    ∙ signed (c .before .before .before .before .before .before) (c .before .before .before .if1 .taken)
 
 returns-2 : tie.Need-returns-2
 returns-2 c =
-    let t = c .before .before .before .before in
-    let a = t .before .before .args in
-    back (c .less2 .result) (c .less2 .ok) ∙ c .less2 .ensures
-    ∙ ap₂ (λ (h n : ℕ). pos (1350 + a .w .step + h) -ℤ pos (a .w .least + n)) (t .before .tenths .ensures) (t .tenths2 .ensures)
-    ∙ ap (λ (b : Bool). termBy b (a .origin .0) (a .w .least) (a .w .step) (a .p .0)) (sym (c .before .before .before .if1 .left))
+    back (c .less2 .result) (c .less2 .ok)
+    ∙ (rw (c .before .before .before .before .before .tenths .ensures, c .before .before .before .before .tenths2 .ensures) at (c .less2 .ensures))
+    ∙ signed (c .before .before .before .before .before .before) (c .before .before .before .if1 .left)
 
 pub term-at-spec : {M : Type 1} → statement M
 term-at-spec =

@@ -4,7 +4,7 @@ use borrow.Author.Needs.{needs}
 use mathlib.Core.Path.{_∙_, ap, ap₂}
 use Prim.Native.Nat.{ℕ, _≤_, _<_}
 use native.Mathlib.Omega.{arith}
-use borrow.Author.Needs.{needs}
+use lib.IntN.{ℤ}
 use Rattle.laws.specs.Parts.{P, N}
 use Rattle.laws.proofs.Ints.{ints}
 use Rattle.quantity.specs.Quantities.{halfUp}
@@ -14,6 +14,13 @@ use Rattle.rating.specs.Numbers.{termBy}
 use Rattle.rating.proofs.Weighing.{u-small, term-small}
 use Rattle.rating.proofs.sheets.term_of.Statement.{statement}
 use Rattle.rating.proofs.sheets.term_of.Tie as tie
+
+-- the levels by the entries of the spectrum, and the term by a least and a step
+abbrev level : tie.Start → ℕ → ℕ
+level s = levelAt (s .args .airborne) (s .args .set) (s .args .entries)
+
+abbrev term : tie.Start → ℕ → ℕ → ℤ
+term s least step = termBy (s .args .airborne) (s .args .origin .0) least step (s .args .p .0)
 
 weigh-requires : tie.Need-weigh-requires
 weigh-requires c κs = search needs
@@ -26,41 +33,35 @@ record Small (c : tie.After-weigh) : Type 0 where
 small : (c : tie.After-weigh) → Small c
 small c =
     let b = c .before in
-    let n = b .args in
-    let g : ℕ → ℕ = levelAt (n .airborne) (b .args .set) (b .args .entries) in
-    let k : 1 ≤ n .bands = count-some (b .pre .1 .0) in
+    let g : ℕ → ℕ = level b in
+    let n : ℕ = b .args .bands in
+    let k : 1 ≤ n = count-some (b .pre .1 .0) in
     record {
       least = omega (
         arith,
         c .weigh .ensures .least-is,
-        least-below g (n .bands) 0 k,
-        level-at-most (n .airborne) (b .args .set) (b .args .entries) (n .bands) (count-most (b .pre .1 .0)) (b .pre .1 .1 .1 .0) (b .pre .1 .1 .1 .1 .0) 0 k,
+        least-below g n 0 k,
+        level-at-most _ _ (b .args .entries) n (count-most (b .pre .1 .0)) (b .pre .1 .1 .1 .0) (b .pre .1 .1 .1 .1 .0) 0 k,
       );
-      step = omega (arith, c .weigh .ensures .step-is, u-small (energiesOf g (n .bands) (leastOf g (n .bands))));
+      step = omega (arith, c .weigh .ensures .step-is, u-small (energiesOf g n (leastOf g n)));
     }
 
+-- so the term is far within what is rounded
+within : (c : tie.After-weigh) → let t = term (c .before) (c .weigh .result .least) (c .weigh .result .step) in (P t ≤ 10000) × (N t ≤ 10000)
+within c = term-small (c .before .args .airborne) _ _ _ _ (c .before .pre .1 .1 .0) (small c .least) (small c .step) (c .before .pre .1 .1 .1 .1 .1)
+
 term-at-requires : tie.Need-term-at-requires
-term-at-requires c κs =
-    let b = c .before in
-    (b .pre .1 .1 .1 .1 .1, b .pre .1 .1 .0, small c .least, small c .step)
+term-at-requires c κs = (c .before .pre .1 .1 .1 .1 .1, c .before .pre .1 .1 .0, small c .least, small c .step)
 
 rounded-requires : tie.Need-rounded-requires
 rounded-requires c κs =
-    let b = c .before .before in
-    let n = b .args in
-    let w = c .before .weigh .result in
-    let t : (P (termBy (n .airborne) (n .origin .0) (w .least) (w .step) (b .args .p .0)) ≤ 10000) × (N (termBy (n .airborne) (n .origin .0) (w .least) (w .step) (b .args .p .0)) ≤ 10000) =
-    term-small (n .airborne) (n .origin .0) (w .least) (w .step) (b .args .p .0) (b .pre .1 .1 .0) (small (c .before) .least) (small (c .before) .step) (b .pre .1 .1 .1 .1 .1) in
-    rw (c .term-at .ensures) (record { low = omega (ints, t .1); high = omega (ints, t .0) })
+    rw (c .term-at .ensures) (record { low = omega (ints, within (c .before) .1); high = omega (ints, within (c .before) .0) })
 
 returns : tie.Need-returns
 returns c =
-    let b = c .before .before .before in
-    let n = b .args in
-    let w = c .before .before .weigh in
+    let w = c .before .before in
     c .rounded .ensures
-    ∙ ap halfUp (c .before .term-at .ensures
-    ∙ ap₂ (λ (l v : ℕ). termBy (n .airborne) (n .origin .0) l v (b .args .p .0)) (w .ensures .least-is) (w .ensures .step-is))
+    ∙ ap halfUp (c .before .term-at .ensures ∙ ap₂ (term (w .before)) (w .weigh .ensures .least-is) (w .weigh .ensures .step-is))
 
 pub term-of-spec : {M : Type 1} → statement M
 term-of-spec = tie.close (tie.spec weigh-requires term-at-requires rounded-requires returns)
