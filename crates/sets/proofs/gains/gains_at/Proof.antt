@@ -25,22 +25,33 @@ Inv-loop bands airborne set entries highest height each₀ total₀ i₀ each to
 abbrev μ-loop : tie.MeasureT-loop
 μ-loop bands airborne set entries highest height each₀ total₀ i₀ each total i = bands - i
 
+-- how it began
+abbrev start : tie.At-loop Inv-loop μ-loop → tie.Start Inv-loop μ-loop
+start c = c .before .before .before
+
+-- the level of the band lifted
+abbrev best-level : tie.At-loop Inv-loop μ-loop → ℕ
+best-level c = levelBy (start c .args .airborne) (highest (start c .args .airborne)) (at (start c .args .t4) (c .loop .i))
+
+-- the turn in which a band is lifted, and the height of the position
+abbrev turn-of : tie.After-lacking2 Inv-loop μ-loop → tie.At-loop Inv-loop μ-loop
+turn-of c = c .before .before .before .before
+
+abbrev height : tie.After-lacking2 Inv-loop μ-loop → ℕ
+height c = turn-of c .before .tenths .result
+
 -- at a turn: the band's value and entry, and what the two deficits are
-value-in : (c : tie.In-loop Inv-loop μ-loop) → inRange (bandOf (c .before .before .before .before .args .t1) (c .before .loop .i)) ≡ true
-value-in c = let s = c .before .before .before .before in band-in (s .args .t1) (s .args .bands) (s .pre .1 .0) (c .before .loop .i) (c .loop-test .taken)
+value-in : (c : tie.In-loop Inv-loop μ-loop) → inRange (bandOf (start (c .before) .args .t1) (c .before .loop .i)) ≡ true
+value-in c = let s = start (c .before) in band-in (s .args .t1) (s .args .bands) (s .pre .1 .0) (c .before .loop .i) (c .loop-test .taken)
 
-entry-in : (c : tie.In-loop Inv-loop μ-loop) → Entries (c .before .before .before .before .args .airborne) (at (c .before .before .before .before .args .t4) (c .before .loop .i))
-entry-in c = let s = c .before .before .before .before in s .pre .1 .1 .0 (c .before .loop .i) (omega arith)
+entry-in : (c : tie.In-loop Inv-loop μ-loop) → Entries (start (c .before) .args .airborne) (at (start (c .before) .args .t4) (c .before .loop .i))
+entry-in c = start (c .before) .pre .1 .1 .0 (c .before .loop .i) (omega arith)
 
-lifted-is : (c : tie.After-lacking2 Inv-loop μ-loop) → let h = c .before .before .before .before .before in
-    let a = h .before .before .args in
-    c .lacking2 .result ≡ h .tenths .result - levelBy (a .airborne) (highest (a .airborne)) (at (a .t4) (c .before .before .before .before .loop .i))
+lifted-is : (c : tie.After-lacking2 Inv-loop μ-loop) → c .lacking2 .result ≡ height c - best-level (turn-of c)
 lifted-is c =
-    let l = c .before .before .before .before .loop in
-    let h = c .before .before .before .before .before in
-    let a = h .before .before .args in
+    let b = turn-of c in
     c .lacking2 .ensures
-    ∙ ap (λ (z : ℤ). h .tenths .result - levelBy (a .airborne) z (at (a .t4) (l .i))) (h .before .best .ensures)
+    ∙ ap (λ (z : ℤ). height c - levelBy (start b .args .airborne) z (at (start b .args .t4) (b .loop .i))) (b .before .before .best .ensures)
 
 best-requires : tie.Need-best-requires Inv-loop μ-loop
 best-requires c κs = search needs
@@ -82,19 +93,12 @@ array-read-lacking-2 c = omega arith
 
 lacking-requires-2 : tie.Need-lacking-requires-2 Inv-loop μ-loop
 lacking-requires-2 c κs =
-    let b = c .before .before .before .before .before in
-    (ap inRange (b .best .ensures) ∙ best-in (b .before .args .airborne), entry-in (c .before .before))
+    (ap inRange (c .before .before .before .before .before .best .ensures) ∙ best-in (start (c .before .before .before) .args .airborne), entry-in (c .before .before))
 
 sub-each : tie.Need-sub-each Inv-loop μ-loop
 sub-each c =
-    let l = c .before .before .before .before .loop in
-    let a = c .before .before .before .before .before .before .before .args in
-    omega (
-      arith,
-      c .before .lacking .ensures,
-      lifted-is c,
-      best-most (a .airborne) (bandOf (a .t1) (l .i)) (at (a .t4) (l .i)) (value-in (c .before .before .before)) (entry-in (c .before .before .before)),
-    )
+    let l = c .before .before .before in
+    omega (arith, c .before .lacking .ensures, lifted-is c, best-most _ _ _ (value-in l) (entry-in l))
 
 mul-each : tie.Need-mul-each Inv-loop μ-loop
 mul-each c = omega arith
@@ -113,20 +117,19 @@ loop-less c = omega arith
 
 loop-again : tie.Need-loop-again Inv-loop μ-loop
 loop-again c =
-    let b = c .before .before .before .before in
-    let l = b .loop in
-    let a = b .before .before .before .args in
+    let l = turn-of c .loop in
+    let a = start (turn-of c) .args in
     let v : ℕ = c .before .lacking .result - c .lacking2 .result in
-    let lacks : (p : ℕ) → b .before .tenths .result ≡ 10 * p → c .before .lacking .result ≡ 10 * p - levelAt (a .airborne) (a .t1) (a .t4) (l .i) =
+    let lacks : (p : ℕ) → height c ≡ 10 * p → c .before .lacking .result ≡ 10 * p - levelAt (a .airborne) (a .t1) (a .t4) (l .i) =
     λ p e. c .before .lacking .ensures ∙ ap (λ (h : ℕ). h - levelAt (a .airborne) (a .t1) (a .t4) (l .i)) e in
-    let gains : (p : ℕ) → b .before .tenths .result ≡ 10 * p → v ≡ gainAt (a .airborne) (a .t1) (a .t4) p (l .i) =
-    λ p e. ap₂ _-_ (lacks p e) (lifted-is c ∙ ap (λ (h : ℕ). h - levelBy (a .airborne) (highest (a .airborne)) (at (a .t4) (l .i))) e) in (
+    let gains : (p : ℕ) → height c ≡ 10 * p → v ≡ gainAt (a .airborne) (a .t1) (a .t4) p (l .i) =
+    λ p e. ap₂ _-_ (lacks p e) (lifted-is c ∙ ap (λ (h : ℕ). h - best-level (turn-of c)) e) in (
       omega arith,
       length-set (l .each) (l .i) v ∙ l .inv .1,
       λ p j e h. put-more (l .each) (l .i) v (gainAt (a .airborne) (a .t1) (a .t4) p) (omega arith) (λ i q. l .inv .2 p i e q) (gains p e) j h,
       put-rest (l .each) (l .i) v (l .inv .3),
       λ p e. total-more (levelAt (a .airborne) (a .t1) (a .t4)) (l .i) p (l .total) (c .before .lacking .result) (l .inv .4 p e) (lacks p e),
-      omega (arith, c .before .lacking .ensures, b .before .tenths .ensures),
+      omega (arith, c .before .lacking .ensures, turn-of c .before .tenths .ensures),
     )
 
 returns : tie.Need-returns Inv-loop μ-loop
