@@ -22,13 +22,13 @@ use Rattle.curve.specs.Levels.{at, levelBy, Entries, Countable}
 use Rattle.curve.proofs.Searched.{count-most}
 use Rattle.rating.specs.declared.kinds.Kind.{Kind}
 use Rattle.rating.specs.declared.kinds.Numbers.{Numbers}
-use Rattle.rating.specs.declared.sheets.Alone.the-variants.{Rating as Number, Refused as Denied}
+use Rattle.rating.specs.declared.sheets.SingleNumber.the-variants.{Rating as Number, Refused as Denied}
 use Rattle.rating.specs.declared.sheets.Rated.{Rated}
 use Rattle.rating.specs.declared.sheets.Rated.the-variants.{Rating, Refused as Unrated}
 use Rattle.rating.specs.Kinds.{airborne, bandsOf, limitOf}
 use Rattle.rating.specs.Curve.{ratingOf}
 use Rattle.rating.specs.Numbers.{entriesOf, numbersOf, ratingAt}
-use Rattle.rating.specs.Sheets.{asked, sheetOf, ratedOf, aloneOf}
+use Rattle.rating.specs.Sheets.{asked, sheetOf, ratedOf, singleOf}
 use Rattle.rating.proofs.Facts.{count-of, entries-fit}
 use Rattle.sets.specs.Gains.{byGains, Bounded, Gained}
 use Rattle.lift.specs.declared.lists.Lifted.{Lifted}
@@ -91,12 +91,12 @@ pub record Rates (k : Kind) (s : BandSet) (d : Decibels) : Type 0 where
   pub rating : d .0 ≡ ratingOf k (bandOf s)
   pub sheet : ratedOf k s ≡ Rating (sheetOf k s)
 
-pub alone-rates : (k : Kind) (s : BandSet) (d : Decibels) → Number d ≡ aloneOf (ratedOf k s) → Rates k s d
+pub alone-rates : (k : Kind) (s : BandSet) (d : Decibels) → Number d ≡ singleOf (ratedOf k s) → Rates k s d
 unfolding ratedOf sheetOf
 alone-rates k s d e = go (eqb (s .len) (bandsOf k)) refl (accepted s (bandsOf k)) refl e
   where
     go : (a : Bool) → eqb (s .len) (bandsOf k) ≡ a → (b : Bool) → accepted s (bandsOf k) ≡ b
-        → Number d ≡ aloneOf (asked a (asked b (Rating (sheetOf k s)) (Unrated BandRange)) (Unrated BandCount)) → Rates k s d
+        → Number d ≡ singleOf (asked a (asked b (Rating (sheetOf k s)) (Unrated BandRange)) (Unrated BandCount)) → Rates k s d
     go true p true q e = record { acc = q; rating = cc; sheet = rw (p, q) }
     go true p false q e = record { acc = cc; rating = cc; sheet = cc }
     go false p b q e = record { acc = cc; rating = cc; sheet = cc }
@@ -111,11 +111,11 @@ from-rated k s t d before r after e w = record {
 }
 
 pub from-refused : (k : Kind) (s : BandSet) (t : ℤ) (refusal : Refusal) (before : List ℕ)
-    → Denied refusal ≡ aloneOf (ratedOf k s) → LiftIs k s t before (Refused refusal) before
+    → Denied refusal ≡ singleOf (ratedOf k s) → LiftIs k s t before (Refused refusal) before
 unfolding answerOf
 from-refused k s t refusal before e = record { answer = go (ratedOf k s) e; buffer = refl }
   where
-    go : (q : Rated) → Denied refusal ≡ aloneOf q → Refused refusal ≡ answerBy q k s t (length before)
+    go : (q : Rated) → Denied refusal ≡ singleOf q → Refused refusal ≡ answerBy q k s t (length before)
     go (Rating sheet) e = cc
     go (Unrated r) e = cc
 

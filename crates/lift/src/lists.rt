@@ -5,10 +5,10 @@ use quantity::Refusal;
 use quantity::naturals::lesser;
 use rating::A1Kind;
 use rating::A3Kind;
-use rating::Alone;
 use rating::I1Kind;
 use rating::I3Kind;
 use rating::Kind;
+use rating::SingleNumber;
 use rating::numbers_of;
 use rating::rate_alone;
 use sets::gains_at;
@@ -224,7 +224,7 @@ pub fn lift(kind: Kind, set: BandSet, target: Decibels, out: &mut [u16]) -> Lift
     ensures { λ r. ⌜ LiftIs kind set (target .0) (now (out .entry)) r (now (out .exit)) ⌝ }
 {
     match rate_alone(kind, set) {
-        Alone::Rating(rating) => lift_rated(kind, set, target, rating, out),
-        Alone::Refused(refusal) => Lifted::Refused(refusal),
+        SingleNumber::Rating(rating) => lift_rated(kind, set, target, rating, out),
+        SingleNumber::Refused(refusal) => Lifted::Refused(refusal),
     }
 }

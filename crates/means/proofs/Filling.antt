@@ -1,5 +1,5 @@
 -- A list that a loop fills from its front, place after place: what is done, and zeros after it. Assumes nothing.
-use mathlib.Core.Path.{_≡_, sym, _∙_, subst}
+use mathlib.Core.Path.{_≡_, sym, _∙_}
 use mathlib.Core.Bool.{cond}
 use mathlib.Core.List.{List}
 use Prim.Native.Nat.{ℕ, _+_, _≤_, _<_}
@@ -8,23 +8,21 @@ use native.Mathlib.Decide.{decLt}
 use native.Mathlib.Omega.{arith}
 use borrow.Author.Tests.{lt-ltb, le-ltb}
 use lib.Dec.{ltb}
-use lib.ListN.{length, getD, set, replicate, length-set, getD-replicate, length-replicate, List·getD-eq-default}
-use lib.Seq.{getD-set-same, getD-set-other, ext-getD}
+use lib.ListN.{length, getD, set, replicate, getD-replicate, length-replicate, List·getD-eq-default}
+use lib.Seq.{getD-set-other, ext-getD}
 use Rattle.laws.specs.Lists.{listed}
-use Rattle.laws.proofs.Lists.{length-listed, listed-at}
+use Rattle.laws.proofs.Lists.{Agreed, agreed-none, agreed-set, length-listed, listed-at}
 use Rattle.quantity.specs.declared.quantities.Tenths.{Tenths}
 use Rattle.quantity.specs.Quantities.{nought}
 
 -- of k places the first n hold f, the rest 0
 pub record Filled (f : ℕ → Tenths) (k : ℕ) (out : List Tenths) (n : ℕ) : Type 0 where
-  pub whole : length out ≡ k
-  pub done : (i : ℕ) → i < n → getD out i nought ≡ f i
+  pub done : Agreed nought f k out n
   pub rest : (i : ℕ) → n ≤ i → getD out i nought ≡ nought
 
 pub filled-none : (f : ℕ → Tenths) (k : ℕ) → Filled f k (replicate k nought) 0
 filled-none f k = record {
-  whole = length-replicate k nought;
-  done = λ i h. absurd (omega arith);
+  done = agreed-none nought f k (replicate k nought) (length-replicate k nought);
   rest = λ i h. go i (decLt i k);
 }
   where
@@ -35,34 +33,23 @@ filled-none f k = record {
 pub filled-more : (f : ℕ → Tenths) (k : ℕ) (out : List Tenths) (n : ℕ) (v : Tenths) → n < k → v ≡ f n → Filled f k out n
     → Filled f k (set out n v) (n + 1)
 filled-more f k out n v h e w = record {
-  whole = length-set out n v ∙ w .whole;
-  done = λ i p. go i p (decLt i n);
+  done = agreed-set nought f k out n v h e (w .done);
   rest = λ i p. getD-set-other out n i v nought (λ q. lt-irrefl n (omega arith)) ∙ w .rest i (omega arith);
 }
-  where
-    go : (i : ℕ) → i < n + 1 → Dec (i < n) → getD (set out n v) i nought ≡ f i
-    go i p (yes q) = getD-set-other out n i v nought (λ r. lt-irrefl n (subst (λ (m : ℕ). m < n) r q)) ∙ w .done i q
-    go i p (no q) = let r : n ≡ i = omega arith in
-        subst (λ (m : ℕ). getD (set out n v) m nought ≡ f m) r (getD-set-same out n v nought (omega (arith, w .whole)) ∙ e)
 
 -- the list is the defined one
 pub filled-list : (f : ℕ → Tenths) (k : ℕ) (out : List Tenths) (n : ℕ) → Filled f k out n
     → out ≡ listed (λ i. cond (ltb i n) (f i) nought) k 0
 filled-list f k out n w =
-    ext-getD nought out (listed g k 0) (w .whole ∙ sym (length-listed nought g k 0))
-    (λ i h. at i (decLt i n) ∙ sym (listed-at nought g k i (omega (arith, w .whole))))
+    ext-getD nought out (listed g k 0) (w .done .whole ∙ sym (length-listed nought g k 0))
+    (λ i h. at i (decLt i n) ∙ sym (listed-at nought g k i (omega (arith, w .done .whole))))
   where
     g : ℕ → Tenths
     g i = cond (ltb i n) (f i) nought
 
     at : (i : ℕ) → Dec (i < n) → getD out i nought ≡ cond (ltb i n) (f i) nought
-    at i (yes p) = rw (lt-ltb i n p) (w .done i p)
+    at i (yes p) = rw (lt-ltb i n p) (w .done .same i p)
     at i (no p) = rw (le-ltb i n (omega arith)) (w .rest i (omega arith))
-
-pub filled-whole : (f : ℕ → Tenths) (k : ℕ) (out : List Tenths) (n : ℕ) → k ≤ n → Filled f k out n → out ≡ listed f k 0
-filled-whole f k out n h w =
-    ext-getD nought out (listed f k 0) (w .whole ∙ sym (length-listed nought f k 0))
-    (λ i p. w .done i (omega (arith, w .whole)) ∙ sym (listed-at nought f k i (omega (arith, w .whole))))
 
 -- a list that is a shorter one with zeros after it
 pub filled-same : (values : List Tenths) (k : ℕ) (out : List Tenths) (n : ℕ) → length values ≡ n
@@ -70,5 +57,5 @@ pub filled-same : (values : List Tenths) (k : ℕ) (out : List Tenths) (n : ℕ)
 filled-same values k out n e w i = go (decLt i n)
   where
     go : Dec (i < n) → getD out i nought ≡ getD values i nought
-    go (yes p) = w .done i p
+    go (yes p) = w .done .same i p
     go (no p) = w .rest i (omega arith) ∙ sym (List·getD-eq-default values nought {n = i} (omega arith))

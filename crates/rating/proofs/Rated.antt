@@ -17,11 +17,11 @@ use Rattle.rating.specs.declared.kinds.Numbers.{Numbers}
 use Rattle.rating.specs.declared.sheets.Sheet.{Sheet}
 use Rattle.rating.specs.declared.sheets.Rated.{Rated}
 use Rattle.rating.specs.declared.sheets.Rated.the-variants.{Rating, Refused}
-use Rattle.rating.specs.declared.sheets.Alone.the-variants.{Rating as Number, Refused as Denied}
+use Rattle.rating.specs.declared.sheets.SingleNumber.the-variants.{Rating as Number, Refused as Denied}
 use Rattle.rating.specs.Kinds.{bandsOf}
 use Rattle.rating.specs.Curve.{ratingOf}
 use Rattle.rating.specs.Numbers.{numbersOf}
-use Rattle.rating.specs.Sheets.{ratedOf, sheetOf, outcomeOf, aloneOf, asked}
+use Rattle.rating.specs.Sheets.{ratedOf, sheetOf, outcomeOf, singleOf, asked}
 
 -- the count of the numbers fetched is the kind's
 pub bands-are : (k : Kind) (n : Numbers) → n ≡ numbersOf k → n .bands ≡ bandsOf k
@@ -78,12 +78,12 @@ module _ (k : Kind) (s : BandSet) where
   pub unfit-rated : (r : Refusal) → Unfit r ≡ outcomeOf k s → Refused r ≡ ratedOf k s
   unfit-rated r e = ap answered e ∙ by-outcome
 
-  pub fit-alone : (d : Decibels) → Accepted ≡ outcomeOf k s → d .0 ≡ ratingOf k (bandOf s) → Number d ≡ aloneOf (ratedOf k s)
+  pub fit-alone : (d : Decibels) → Accepted ≡ outcomeOf k s → d .0 ≡ ratingOf k (bandOf s) → Number d ≡ singleOf (ratedOf k s)
   unfolding sheetOf
-  fit-alone d e h = (λ i. Number (record { 0 = h i })) ∙ ap aloneOf (fit-rated (sheetOf k s) e refl)
+  fit-alone d e h = (λ i. Number (record { 0 = h i })) ∙ ap singleOf (fit-rated (sheetOf k s) e refl)
 
-  pub unfit-alone : (r : Refusal) → Unfit r ≡ outcomeOf k s → Denied r ≡ aloneOf (ratedOf k s)
-  unfit-alone r e = ap aloneOf (unfit-rated r e)
+  pub unfit-alone : (r : Refusal) → Unfit r ≡ outcomeOf k s → Denied r ≡ singleOf (ratedOf k s)
+  unfit-alone r e = ap singleOf (unfit-rated r e)
 
 -- by the tests themselves
 pub wrong-count : (k : Kind) (s : BandSet) (m : ℕ) → m ≡ bandsOf k → (s .len ≡ m → ⊥) → Refused BandCount ≡ ratedOf k s

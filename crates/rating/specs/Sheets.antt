@@ -21,8 +21,8 @@ use Rattle.rating.specs.declared.sheets.Term.the-variants.{Given, Absent
 use Rattle.rating.specs.declared.sheets.Sheet.{Sheet}
 use Rattle.rating.specs.declared.sheets.Rated.{Rated}
 use Rattle.rating.specs.declared.sheets.Rated.the-variants.{Rating, Refused}
-use Rattle.rating.specs.declared.sheets.Alone.{Alone}
-use Rattle.rating.specs.declared.sheets.Alone.the-variants.{Rating as Number, Refused as Denied}
+use Rattle.rating.specs.declared.sheets.SingleNumber.{SingleNumber}
+use Rattle.rating.specs.declared.sheets.SingleNumber.the-variants.{Rating as Number, Refused as Denied}
 use Rattle.rating.specs.Kinds.{airborne, bandsOf, C, Ctr}
 use Rattle.rating.specs.Curve.{ratingOf, shiftsOf}
 use Rattle.rating.specs.Terms.{airborneTerm, impactTerm}
@@ -74,9 +74,9 @@ unfoldable pub outcomeOf : Kind → BandSet → Outcome
 outcomeOf k s = elim (eqb (s .len) (bandsOf k)) [ true ↦ elim (accepted s (bandsOf k)) [ true ↦ Accepted | false ↦ Unfit BandRange ] | false ↦ Unfit BandCount ]
 
 -- the rating of an answer alone
-abbrev pub aloneOf : Rated → Alone
-aloneOf (Rating s) = Number (s .rating)
-aloneOf (Refused r) = Denied r
+abbrev pub singleOf : Rated → SingleNumber
+singleOf (Rating s) = Number (s .rating)
+singleOf (Refused r) = Denied r
 
 -- in the paper's numbers: rating, first term, second term, whether there is one, shifts, mark; or the refusal
 abbrev pub sheetNumbers : Sheet → List ℤ

@@ -33,7 +33,7 @@ ghost use Rattle.curve.specs.Levels.{Entries, Count, at, levelAt};
 ghost use Rattle.rating.specs.Kinds.{bandsOf};
 ghost use Rattle.rating.specs.Numbers.{numbersOf, Sought, WeighedOf, ratingBy, termBy, termOf};
 ghost use Rattle.rating.specs.Curve.{ratingOf};
-ghost use Rattle.rating.specs.Sheets.{sheetOf, ratedOf, outcomeOf, aloneOf};
+ghost use Rattle.rating.specs.Sheets.{sheetOf, ratedOf, outcomeOf, singleOf};
 
 // A spectrum term, where the kind has it.
 pub enum Term {
@@ -58,7 +58,7 @@ pub enum Rated {
 }
 
 // The rating of a sheet alone, or the refusal.
-pub enum Alone {
+pub enum SingleNumber {
     Rating(Decibels),
     Refused(Refusal),
 }
@@ -244,12 +244,12 @@ fn rating_of(kind: Kind, set: BandSet) -> Decibels
 }
 
 // The rating alone, as `rate` gives it: no table of energies is laid out for it.
-pub fn rate_alone(kind: Kind, set: BandSet) -> Alone
-    ensures { λ r. ⌜ r ≡ aloneOf (ratedOf kind set) ⌝ }
+pub fn rate_alone(kind: Kind, set: BandSet) -> SingleNumber
+    ensures { λ r. ⌜ r ≡ singleOf (ratedOf kind set) ⌝ }
 {
     match accept(kind, set) {
-        Outcome::Accepted => Alone::Rating(rating_of(kind, set)),
-        Outcome::Refused(refusal) => Alone::Refused(refusal),
+        Outcome::Accepted => SingleNumber::Rating(rating_of(kind, set)),
+        Outcome::Refused(refusal) => SingleNumber::Refused(refusal),
     }
 }
 
