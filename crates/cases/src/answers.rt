@@ -1,29 +1,24 @@
 // The calls, by the number that a case begins with, and their answers as text.
-use crate::lists::fill;
-use crate::lists::layout_of;
+use crate::lists::length_of;
+use crate::lists::list_of;
 use crate::numbers::Case;
+use crate::numbers::NO_CASE;
 use crate::numbers::float;
 use crate::numbers::natural;
 use crate::numbers::signed;
+use crate::places::NO_SET;
+use crate::places::UNWRITTEN;
+use crate::places::print_lent;
+use crate::stated::agrees;
 use intake::Time;
 use libc::STDOUT_FILENO;
-use quantity::signed::above;
-use quantity::signed::below;
-
-// What the lent arrays are full of before a call. No answer has it: printed is all that the call wrote, past its answer or on a
-// refusal too.
-const UNWRITTEN: i32 = -2147483648;
-
-const NO_SET: u16 = 65535;
 
 // The intake of a time, which is no C function.
 fn take_time(x: f32, out: &mut [i32; 17]) -> u32 {
     match intake::take_time(x) {
         Time::Value(time) => {
             let hundredths = time.0;
-            if hundredths < 100000 {
-                out[0] = hundredths as i32;
-            }
+            out[0] = hundredths as i32;
             0
         }
         Time::Refused(refusal) => refusal.number(),
@@ -31,40 +26,38 @@ fn take_time(x: f32, out: &mut [i32; 17]) -> u32 {
 }
 
 // The lift list, in the first places of a lent list.
-fn lift(case: Case, tenths: &[i32], list: &mut [u16], out: &mut [i32]) -> u32 {
+fn lift(case: Case, tenths: &[i32], sets: &mut [u16], out: &mut [i32]) -> u32 {
     let places = natural(case, 5) as usize;
-    if list.len() < places {
-        return 0;
+    if sets.len() < places {
+        return NO_CASE;
     }
     desk_c::imbrolt_lift(
         natural(case, 1),
         tenths,
         natural(case, 3),
         signed(case, 4),
-        &mut list[0..places],
+        &mut sets[0..places],
         out,
     )
 }
 
-// Makes the call of a case, on the first `length` places of the arrays. What is no case is answered by 0 and no number, as no
-// call is.
+// Makes the call of a case, on the first places of its list, as many as are stated.
 fn call(
     case: Case,
-    length: usize,
     tenths: &[i32; 144],
     marks: &[u8; 144],
     floats: &[f32; 144],
-    list: &mut [u16; 800],
+    sets: &mut [u16; 800],
     out: &mut [i32; 17],
 ) -> u32 {
+    let length = length_of(case);
     if 144 < length {
-        return 0;
+        return NO_CASE;
     }
     let tenths = &tenths[..][0..length];
     let marks = &marks[..][0..length];
     let floats = &floats[..][0..length];
-    let number = natural(case, 0);
-    match number {
+    match natural(case, 0) {
         1 => desk_c::imbrolt_rate(natural(case, 1), tenths, natural(case, 3), out),
         2 => desk_c::imbrolt_reading(natural(case, 1), float(case, 2), out),
         3 => desk_c::imbrolt_rate_readings(natural(case, 1), marks, floats, out),
@@ -82,72 +75,29 @@ fn call(
         9 => desk_c::imbrolt_specimens(marks, floats, out),
         10 => desk_c::imbrolt_cover(tenths, natural(case, 2), out),
         11 => desk_c::imbrolt_grade(natural(case, 1), marks, floats, out),
-        12 => lift(case, tenths, list, out),
-        _ => 0,
+        12 => lift(case, tenths, sets, out),
+        _ => NO_CASE,
     }
 }
 
-fn number_of(set: u16) -> i32 {
-    if set == NO_SET {
-        return UNWRITTEN;
-    }
-    set as i32
-}
-
-// Number i of both lent arrays, one after the other.
-fn number_at(out: &[i32; 17], list: &[u16; 800], i: usize) -> i32 {
-    if i < 17 {
-        return out[i];
-    }
-    if 816 < i {
-        return UNWRITTEN;
-    }
-    number_of(list[i - 17])
-}
-
-// How far a number lies from 0.
-fn size(z: i32) -> u32 {
-    if z < -100000 {
-        return 100000;
-    }
-    if z < 0 {
-        return below(z, 0);
-    }
-    above(z, 0)
-}
-
-// A blank and a number, where one was written: all answers are above -100000.
-fn print_number(z: i32) {
-    if z < -100000 {
+// A line with what the call of a case returns and what it wrote, and a mark at its end where the library says something else when
+// it is asked with what lies past the stated length; `?` for what is no case.
+pub fn answer(case: Case) {
+    let list = list_of(case);
+    let mut sets = [NO_SET; 800];
+    let mut out = [UNWRITTEN; 17];
+    let tenths = list.tenths;
+    let marks = list.marks;
+    let floats = list.floats;
+    let returned = call(case, &tenths, &marks, &floats, &mut sets, &mut out);
+    if returned == NO_CASE {
+        io::write_all(STDOUT_FILENO, b"?\n");
         return;
     }
-    io::write_all(STDOUT_FILENO, b" ");
-    if z < 0 {
-        io::write_all(STDOUT_FILENO, b"-");
-    }
-    io::print_decimal(STDOUT_FILENO, size(z) as u64);
-}
-
-fn print_numbers(out: &[i32; 17], list: &[u16; 800]) {
-    let mut i = 0;
-    while i < 817 {
-        print_number(number_at(out, list, i));
-        i += 1;
-    }
-}
-
-// A line with what the call of a case returns and every number that it wrote.
-pub fn answer(case: Case) {
-    let layout = layout_of(natural(case, 0));
-    let length = natural(case, layout.length) as usize;
-    let mut tenths = [0i32; 144];
-    let mut marks = [0u8; 144];
-    let mut floats = [0.0f32; 144];
-    fill(case, layout.list, &mut tenths, &mut marks, &mut floats);
-    let mut list = [NO_SET; 800];
-    let mut out = [UNWRITTEN; 17];
-    let returned = call(case, length, &tenths, &marks, &floats, &mut list, &mut out);
     io::print_decimal(STDOUT_FILENO, returned as u64);
-    print_numbers(&out, &list);
+    print_lent(&out, &sets);
+    if !agrees(case, list, returned, out[0]) {
+        io::write_all(STDOUT_FILENO, b" !");
+    }
     io::write_all(STDOUT_FILENO, b"\n");
 }

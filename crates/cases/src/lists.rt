@@ -3,15 +3,25 @@ use crate::numbers::Case;
 use crate::numbers::float;
 use crate::numbers::natural;
 use crate::numbers::signed;
+ghost use Prim.Native.Nat.{_≤_};
 
 // Where the length of the list stands in a line, and where the list begins.
-pub struct Layout {
-    pub length: usize,
-    pub list: usize,
+struct Layout {
+    length: usize,
+    list: usize,
+}
+
+// The numbers of a line from its list on, as tenths and as pairs of a mark and a float; zeros past the end of the line.
+pub struct List {
+    pub tenths: [i32; 144],
+    pub marks: [u8; 144],
+    pub floats: [f32; 144],
 }
 
 // The layout of a call's lines. A call without a list finds one of length 0 past the end of every line.
-pub fn layout_of(call: u32) -> Layout {
+fn layout_of(call: u32) -> Layout
+    ensures { λ r. ⌜ r .list ≤ 104 ⌝ }
+{
     match call {
         1 => Layout { length: 2, list: 4 },
         3 => Layout { length: 2, list: 3 },
@@ -27,17 +37,12 @@ pub fn layout_of(call: u32) -> Layout {
     }
 }
 
-// The numbers from a place on, as tenths and as pairs of a mark and a float; zeros past the end of the line.
-pub fn fill(
-    case: Case,
-    from: usize,
-    tenths: &mut [i32; 144],
-    marks: &mut [u8; 144],
-    floats: &mut [f32; 144],
-) {
-    if 104 < from {
-        return;
-    }
+fn list_from(case: Case, from: usize) -> List
+    requires { ⌜ from ≤ 104 ⌝ }
+{
+    let mut tenths = [0i32; 144];
+    let mut marks = [0u8; 144];
+    let mut floats = [0.0f32; 144];
     let mut i = 0;
     while i < 144 {
         tenths[i] = signed(case, from + i);
@@ -45,4 +50,20 @@ pub fn fill(
         floats[i] = float(case, from + 2 * i + 1);
         i += 1;
     }
+    List {
+        tenths,
+        marks,
+        floats,
+    }
+}
+
+pub fn list_of(case: Case) -> List {
+    let layout = layout_of(natural(case, 0));
+    list_from(case, layout.list)
+}
+
+// The stated length of the list.
+pub fn length_of(case: Case) -> usize {
+    let layout = layout_of(natural(case, 0));
+    natural(case, layout.length) as usize
 }

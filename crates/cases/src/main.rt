@@ -4,23 +4,23 @@
 mod answers;
 mod lists;
 mod numbers;
+mod places;
+mod stated;
 
 use libc::STDIN_FILENO;
 use numbers::Case;
 
-// Feeds n bytes of what was read, and answers each line that they end.
-fn take(case: Case, buf: &[u8], n: usize) -> Case {
+// Feeds what was read, and answers each line that it ends.
+fn take(case: Case, bytes: &[u8]) -> Case {
     let mut now = case;
     let mut i = 0;
-    while i < n {
-        if i < buf.len() {
-            let b = buf[i];
-            if b == b'\n' {
-                answers::answer(now);
-                now = numbers::empty();
-            } else {
-                now = numbers::fed(now, b);
-            }
+    while i < bytes.len() {
+        let b = bytes[i];
+        if b == b'\n' {
+            answers::answer(now);
+            now = numbers::empty();
+        } else {
+            now = numbers::fed(now, b);
         }
         i += 1;
     }
@@ -38,7 +38,7 @@ fn main() {
             return;
         }
         let n = io::count(got, &buf);
-        case = take(case, &buf, n);
+        case = take(case, &buf[..n]);
         turns -= 1;
     }
 }

@@ -1,6 +1,10 @@
 // The numbers of a case line, read byte by byte.
 use quantity::signed::less;
 
+// Stands for what a call returns where a line is no case: an unknown call, a length over 144, more than 800 places. No C function
+// returns it.
+pub const NO_CASE: u32 = 4294967295;
+
 pub struct Case {
     pub sizes: [u64; 104],
     pub negative: [bool; 104],
@@ -34,9 +38,9 @@ pub fn fed(case: Case, b: u8) -> Case {
     }
     let size = next.sizes[at];
     if size < 1000000000000 {
-        if 48 <= b {
-            if b <= 57 {
-                next.sizes[at] = size * 10 + (b - 48) as u64;
+        if b'0' <= b {
+            if b <= b'9' {
+                next.sizes[at] = size * 10 + (b - b'0') as u64;
             }
         }
     }

@@ -37,6 +37,9 @@ slice-aggregate-count c = omega arith
 count-requires : tie.Need-count-requires Inv-loop μ-loop
 count-requires c κs = search needs
 
+array-share-prefix-buf : tie.Need-array-share-prefix-buf Inv-loop μ-loop
+array-share-prefix-buf c = omega arith
+
 slice-aggregate-take : tie.Need-slice-aggregate-take Inv-loop μ-loop
 slice-aggregate-take c = omega arith
 
@@ -69,6 +72,7 @@ main-spec =
     returns
     slice-aggregate-count
     count-requires
+    array-share-prefix-buf
     slice-aggregate-take
     take-requires
     sub-turns

@@ -1,16 +1,16 @@
--- `cases::take` is safe and ends: each byte within the buffer is passed once. Assumes nothing.
+-- `cases::take` is safe and ends: each byte is passed once. Assumes nothing.
 use Prim.Native.Nat.{_-_, _≤_}
 use native.Mathlib.Omega.{arith}
 use borrow.Author.Needs.{needs}
+use lib.ListN.{length}
 use Rattle.cases.proofs.take.Statement.{statement}
 use Rattle.cases.proofs.take.Tie as tie
 
 abbrev Inv-loop : tie.InvT-loop
-Inv-loop buf n now₀ i₀ now i =
-    i ≤ n
+Inv-loop bytes now₀ i₀ now i = i ≤ length bytes
 
 abbrev μ-loop : tie.MeasureT-loop
-μ-loop buf n now₀ i₀ now i = n - i
+μ-loop bytes now₀ i₀ now i = length bytes - i
 
 loop-holds : tie.Need-loop-holds Inv-loop μ-loop
 loop-holds c = omega arith

@@ -1,18 +1,15 @@
--- `cases::lists::fill` is safe and ends: the places of its arrays are passed once. Assumes nothing.
+-- `cases::lists::list_from` is safe and ends: the places of its arrays are passed once. Assumes nothing.
 use Prim.Native.Nat.{_-_, _≤_}
 use native.Mathlib.Omega.{arith}
 use borrow.Author.Needs.{needs}
-use Rattle.cases.proofs.lists.fill.Statement.{statement}
-use Rattle.cases.proofs.lists.fill.Tie as tie
+use Rattle.cases.proofs.lists.list_from.Statement.{statement}
+use Rattle.cases.proofs.lists.list_from.Tie as tie
 
 abbrev Inv-loop : tie.InvT-loop
 Inv-loop case from tenths₀ marks₀ floats₀ i₀ tenths marks floats i = i ≤ 144
 
 abbrev μ-loop : tie.MeasureT-loop
 μ-loop case from tenths₀ marks₀ floats₀ i₀ tenths marks floats i = 144 - i
-
-returns : tie.Need-returns Inv-loop μ-loop
-returns c = search needs
 
 loop-holds : tie.Need-loop-holds Inv-loop μ-loop
 loop-holds c = omega arith
@@ -23,11 +20,11 @@ add-signed c = omega arith
 signed-requires : tie.Need-signed-requires Inv-loop μ-loop
 signed-requires c κs = search needs
 
-mul-t11 : tie.Need-mul-t11 Inv-loop μ-loop
-mul-t11 c = omega arith
+mul-tenths : tie.Need-mul-tenths Inv-loop μ-loop
+mul-tenths c = omega arith
 
-element-set-from-tenths : tie.Need-element-set-from-tenths Inv-loop μ-loop
-element-set-from-tenths c = omega arith
+array-set-from-tenths : tie.Need-array-set-from-tenths Inv-loop μ-loop
+array-set-from-tenths c = omega arith
 
 mul-natural : tie.Need-mul-natural Inv-loop μ-loop
 mul-natural c = omega arith
@@ -41,8 +38,8 @@ natural-requires c κs = search needs
 cast-marks : tie.Need-cast-marks Inv-loop μ-loop
 cast-marks c = omega arith
 
-element-write-marks : tie.Need-element-write-marks Inv-loop μ-loop
-element-write-marks c = omega arith
+array-write-marks : tie.Need-array-write-marks Inv-loop μ-loop
+array-write-marks c = omega arith
 
 mul-float : tie.Need-mul-float Inv-loop μ-loop
 mul-float c = omega arith
@@ -59,8 +56,8 @@ float-requires c κs = search needs
 mul-floats : tie.Need-mul-floats Inv-loop μ-loop
 mul-floats c = omega arith
 
-element-write-floats : tie.Need-element-write-floats Inv-loop μ-loop
-element-write-floats c = omega arith
+array-write-floats : tie.Need-array-write-floats Inv-loop μ-loop
+array-write-floats c = omega arith
 
 add-i : tie.Need-add-i Inv-loop μ-loop
 add-i c = omega arith
@@ -71,33 +68,32 @@ loop-less c = omega arith
 loop-again : tie.Need-loop-again Inv-loop μ-loop
 loop-again c = omega arith
 
-returns-2 : tie.Need-returns-2 Inv-loop μ-loop
-returns-2 c = search needs
+returns : tie.Need-returns Inv-loop μ-loop
+returns c = search needs
 
-pub fill-spec : {M : Type 1} → statement M
-fill-spec =
+pub list-from-spec : {M : Type 1} → statement M
+list-from-spec =
     tie.close
     (tie.spec
     Inv-loop
     μ-loop
-    returns
     loop-holds
     add-signed
     signed-requires
-    mul-t11
-    element-set-from-tenths
+    mul-tenths
+    array-set-from-tenths
     mul-natural
     add-natural
     natural-requires
     cast-marks
-    element-write-marks
+    array-write-marks
     mul-float
     add-float
     add-float-2
     float-requires
     mul-floats
-    element-write-floats
+    array-write-floats
     add-i
     loop-less
     loop-again
-    returns-2)
+    returns)
