@@ -3,7 +3,7 @@
 use Rattle.laws.proofs.Bits.{one-bit}
 use mathlib.Core.Path.{_≡_, ap}
 use mathlib.Core.List.{_++_}
-use Prim.Native.Nat.{ℕ, _+_, _*_, _-_, _%_, _^_, _≤_, _<_, min}
+use Prim.Native.Nat.{ℕ, _+_, _*_, _%_, _^_, _≤_, _<_, min}
 use native.Mathlib.Omega.{arith}
 use lib.Pow.{pow-mono}
 use Rattle.sets.specs.Gains.{joinedBy, PartOf}
@@ -20,8 +20,5 @@ module _ (g : ℕ → ℕ) (m i r from : ℕ) (mask : r ≡ m + 2 ^ i) (next : f
   pub longer-part : (s l j sum least : ℕ) → PartOf g m s l j → j ≤ i → i < 16 → sum ≡ s + g i → least ≡ min l (g i) → PartOf g r sum least from
   longer-part s l j sum least w k h a b = rw (mask, next, a, b) (part-joined g m s l j w i k h)
 
-  pub longer-piece : (need n more : ℕ) → 1 ≤ more → i < n
-      → joinedBy g need n (more + 1) m i ≡ joinedBy g need n (more - 1 + 1) r from ++ joinedBy g need n (more + 1) m (i + 1)
-  longer-piece need n more o h =
-      let one : more - 1 + 1 ≡ more = omega arith in
-      rw (mask, next, one) (joined-step g need n more m i h)
+  pub longer-piece : (need n more : ℕ) → i < n → joinedBy g need n (more + 1) m i ≡ joinedBy g need n more r from ++ joinedBy g need n (more + 1) m (i + 1)
+  longer-piece need n more h = rw (mask, next) (joined-step g need n more m i h)

@@ -85,7 +85,44 @@ fn put_last(part: Part, gains: &[u32; 16], bands: usize, need: u32, out: &mut [u
     count
 }
 
-// Writes the listed sets of a part and `more` bands and one to the front of `out`, in order, and counts them.
+// Writes the listed sets of a part and two bands more to the front of `out`, in order, and counts them.
+fn put_two(part: Part, gains: &[u32; 16], bands: usize, need: u32, out: &mut [u16]) -> usize
+    requires { ⌜ PartOf (at (now gains)) (part .mask) (part .sum) (part .least) (part .from) ⌝ }
+    requires { ⌜ Bounded (now gains) bands need ⌝ }
+    requires { ⌜ length (joinedBy (at (now gains)) need bands 2 (part .mask) (part .from)) ≤ length (now out) ⌝ }
+    ensures { λ r. ⌜ r ≡ length (joinedBy (at (now (gains .entry))) need bands 2 (part .mask) (part .from)) ⌝ }
+    ensures { λ r. ⌜ now (out .exit) ≡ front (joinedBy (at (now (gains .entry))) need bands 2 (part .mask) (part .from)) (now (out .entry)) ⌝ }
+{
+    let mut count = 0;
+    let mut i = part.from;
+    while i < bands {
+        let longer = joined(part, i, gains[i]);
+        count += put_last(longer, gains, bands, need, &mut out[count..]);
+        i += 1;
+    }
+    count
+}
+
+// Writes the listed sets of a part and three bands more to the front of `out`, in order, and counts them.
+fn put_three(part: Part, gains: &[u32; 16], bands: usize, need: u32, out: &mut [u16]) -> usize
+    requires { ⌜ PartOf (at (now gains)) (part .mask) (part .sum) (part .least) (part .from) ⌝ }
+    requires { ⌜ Bounded (now gains) bands need ⌝ }
+    requires { ⌜ length (joinedBy (at (now gains)) need bands 3 (part .mask) (part .from)) ≤ length (now out) ⌝ }
+    ensures { λ r. ⌜ r ≡ length (joinedBy (at (now (gains .entry))) need bands 3 (part .mask) (part .from)) ⌝ }
+    ensures { λ r. ⌜ now (out .exit) ≡ front (joinedBy (at (now (gains .entry))) need bands 3 (part .mask) (part .from)) (now (out .entry)) ⌝ }
+{
+    let mut count = 0;
+    let mut i = part.from;
+    while i < bands {
+        let longer = joined(part, i, gains[i]);
+        count += put_two(longer, gains, bands, need, &mut out[count..]);
+        i += 1;
+    }
+    count
+}
+
+// Writes the listed sets of a part and `more` bands and one to the front of `out`, in order, and counts them. Three nested loops:
+// the compiler lays them into one another, which a function that calls itself would keep apart.
 fn put_sets(
     more: u32,
     part: Part,
@@ -104,14 +141,10 @@ fn put_sets(
     if more == 0 {
         return put_last(part, gains, bands, need, out);
     }
-    let mut count = 0;
-    let mut i = part.from;
-    while i < bands {
-        let longer = joined(part, i, gains[i]);
-        count += put_sets(more - 1, longer, gains, bands, need, &mut out[count..]);
-        i += 1;
+    if more == 1 {
+        return put_two(part, gains, bands, need, out);
     }
-    count
+    put_three(part, gains, bands, need, out)
 }
 
 // Writes the listed sets to the front of `out`, in order, and counts them.
