@@ -1,6 +1,5 @@
 // The sheet of a band set: one path for all kinds, by the numbers of the kind.
 use crate::kinds::Kind;
-use crate::kinds::Numbers;
 use crate::kinds::bands_of;
 use crate::kinds::marked;
 use crate::kinds::numbers_of;
@@ -31,7 +30,7 @@ ghost use Rattle.quantity.specs.Quantities.{halfUp, bandOf};
 ghost use Rattle.curve.specs.Bands.{accepted};
 ghost use Rattle.curve.specs.Levels.{Entries, Count, at, levelAt};
 ghost use Rattle.rating.specs.Kinds.{bandsOf};
-ghost use Rattle.rating.specs.Numbers.{numbersOf, Sought, WeighedOf, ratingBy, termBy, termOf};
+ghost use Rattle.rating.specs.Numbers.{Sought, WeighedOf, ratingBy, termBy, termOf};
 ghost use Rattle.rating.specs.Curve.{ratingOf};
 ghost use Rattle.rating.specs.Sheets.{sheetOf, ratedOf, outcomeOf, singleOf};
 
@@ -70,11 +69,11 @@ struct Weighed {
 }
 
 // The accepted position of an accepted set, with the shifts from its start.
-fn sought(kind: Kind, set: BandSet, n: Numbers) -> Accepted
-    requires { ⌜ n ≡ numbersOf kind ⌝ }
+fn sought(kind: Kind, set: BandSet) -> Accepted
     requires { ⌜ accepted set (bandsOf kind) ≡ true ⌝ }
     ensures { λ r. ⌜ Sought kind set (r .at .0) (r .shifts) ⌝ }
 {
+    let n = numbers_of(kind);
     let bands = n.bands;
     let entries = n.entries;
     let levels = levels(set, bands, n.airborne, entries);
@@ -169,7 +168,7 @@ pub fn sheet_of(
     ensures { λ r. ⌜ r ≡ sheetOf kind set ⌝ }
 {
     let n = numbers_of(kind);
-    let accepted = sought(kind, set, n);
+    let accepted = sought(kind, set);
     let p = accepted.at;
     let shifts = accepted.shifts;
     let origin = n.origin;
@@ -238,7 +237,7 @@ fn rating_of(kind: Kind, set: BandSet) -> Decibels
     ensures { λ r. ⌜ r .0 ≡ ratingOf kind (bandOf set) ⌝ }
 {
     let n = numbers_of(kind);
-    let accepted = sought(kind, set, n);
+    let accepted = sought(kind, set);
     let origin = n.origin;
     rating_at(accepted.at, n.airborne, origin)
 }

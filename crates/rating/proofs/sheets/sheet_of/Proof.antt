@@ -25,7 +25,7 @@ small c =
     position-small (c .before .before .args .kind) _ _ _ (c .before .before .pre .1) (c .sought .ensures)
 
 sought-requires : tie.Need-sought-requires
-sought-requires c κs = (c .numbers-of .ensures, c .before .pre .1)
+sought-requires c κs = c .before .pre .1
 
 rating-at-requires : tie.Need-rating-at-requires
 rating-at-requires c κs = (small (c .before .before), got (c .before .before .before) .sound .near)
