@@ -3,21 +3,22 @@
 use mathlib.Core.Path.{_≡_, refl, sym, _∙_, ap, subst}
 use mathlib.Core.Bool.{Bool, true, false}
 use mathlib.Core.List.{List}
-use Prim.Native.Nat.{ℕ, _+_, _*_, _≤_, _<_}
+use Prim.Native.Nat.{ℕ, _+_, _*_, _/_, _≤_, _<_}
 use native.Mathlib.Omega.{arith}
 use lib.IntN.{ℤ, pos, _-ℤ_, _*ℤ_}
 use Rattle.laws.specs.Parts.{P, N}
 use Rattle.laws.proofs.Ints.{minus, apart, times-P, times-N}
 use Rattle.laws.proofs.Lists.{listed-at}
+use Rattle.laws.proofs.Sums.{sum-same}
 use Rattle.quantity.specs.Quantities.{halfUp, bandOf}
 use Rattle.quantity.specs.declared.quantities.BandSet.{BandSet}
 use Rattle.quantity.specs.declared.quantities.Decibels.{Decibels}
 use Rattle.curve.specs.Bands.{accepted, limited}
 use Rattle.laws.specs.Tests.{anyTo, bit}
-use Rattle.curve.specs.Levels.{at, levelAt, startAt, Entries, Settled}
+use Rattle.curve.specs.Levels.{at, levelAt, Levels, Entries}
 use Rattle.curve.proofs.Counted.{PartsOf, counted, level-parts}
 use Rattle.laws.proofs.Counted.{Up}
-use Rattle.curve.proofs.Searched.{band-in, count-most, count-some}
+use Rattle.curve.proofs.Searched.{band-in, count-most, count-some, levels-most, settled-alike}
 use Rattle.rating.specs.declared.kinds.Kind.{Kind}
 use Rattle.rating.specs.declared.kinds.Numbers.{Numbers}
 use Rattle.rating.specs.declared.sheets.Sheet.{Sheet}
@@ -27,9 +28,10 @@ use Rattle.rating.specs.Kinds.{airborne, bandsOf, C, Ctr}
 use Rattle.rating.specs.Curve.{ratingOf, shiftsOf}
 use Rattle.rating.specs.Terms.{airborneTerm}
 use Rattle.rating.specs.Sheets.{decibels, firstBy, secondBy, sheetOf}
-use Rattle.rating.specs.Numbers.{weightBy, firstOf, secondOf, startAdd, numbersOf, Sound, Sought, ratingAt, ratingBy, termOf}
+use Rattle.rating.specs.Numbers.{weightBy, firstOf, secondOf, startAdd, numbersOf, Sound, SoughtBy, Sought, ratingAt, ratingBy, termOf}
 use Rattle.rating.proofs.Facts.{count-of, first-fit, second-fit, sound-of}
 use Rattle.rating.proofs.Meaning.{rating-is, shifts-is, start-below}
+use Rattle.rating.proofs.Rated.{bands-are}
 use Rattle.rating.proofs.Weighing.{airborne-term, impact-term}
 
 -- an airborne weight, by the parts of its spectrum value
@@ -123,12 +125,22 @@ pub fetched : (k : Kind) (s : BandSet) (m : Numbers) → m ≡ numbersOf k → a
 unfolding numbersOf
 fetched k s m e acc = subst (Fetched s) (sym e) (record { sound = sound-of k; acc = acc })
 
-pub sought-by : (k : Kind) (s : BandSet) (m : Numbers) (p shifts : ℕ) → m ≡ numbersOf k
-    → Settled (levelAt (m .airborne) s (m .entries)) (m .bands) (m .limit) (startAt (levelAt (m .airborne) s (m .entries)) (m .bands) (startAdd k)) p shifts
-    → Sought k s p shifts
+-- what the search asks of the levels found
+pub levels-fit : (k : Kind) (s : BandSet) (m : Numbers) (levels : List ℕ) → m ≡ numbersOf k → accepted s (bandsOf k) ≡ true
+    → Levels (m .airborne) s (m .entries) (m .bands) levels → (m .bands ≡ bandsOf k) × ((i : ℕ) → i < m .bands → at levels i ≤ 4500)
+levels-fit k s m levels e acc l =
+    let f = fetched k s m e acc in
+    (bands-are k m e, levels-most (m .airborne) s (m .entries) (m .bands) (count-most (f .sound .count)) (f .acc) (f .sound .entries) levels l)
+
+-- what it finds by them, it finds of the set
+pub sought-by : (k : Kind) (s : BandSet) (m : Numbers) (levels : List ℕ) (p shifts : ℕ) → m ≡ numbersOf k
+    → Levels (m .airborne) s (m .entries) (m .bands) levels → SoughtBy k (at levels) (m .bands) (m .limit) p shifts → Sought k s p shifts
 unfolding numbersOf
-sought-by k s m p shifts e w =
-    subst (λ (q : Numbers). Settled (levelAt (q .airborne) s (q .entries)) (q .bands) (q .limit) (startAt (levelAt (q .airborne) s (q .entries)) (q .bands) (startAdd k)) p shifts) e w
+sought-by k s m levels p shifts e l w =
+    let g : ℕ → ℕ = levelAt (m .airborne) s (m .entries) in
+    subst (λ (q : Numbers). SoughtBy k (levelAt (q .airborne) s (q .entries)) (q .bands) (q .limit) p shifts) e
+    (settled-alike (at levels) g (m .bands) (m .limit) _ _ p shifts (l .each)
+    (ap (λ (t : ℕ). (t + startAdd k) / (10 * m .bands)) (sum-same (at levels) g (m .bands) (l .each))) w)
 
 pub position-small : (k : Kind) (s : BandSet) (p shifts : ℕ) → accepted s (bandsOf k) ≡ true → Sought k s p shifts → p < 500
 position-small k s p shifts acc w = omega (arith, start-below k s acc, w .distance)

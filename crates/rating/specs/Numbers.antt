@@ -67,11 +67,12 @@ pub record Sound (n : Numbers) : Type 0 where
   pub first : (i : ℕ) → i < 16 → Entries (n .airborne) (at (n .first) i)
   pub second : (i : ℕ) → i < 16 → Entries (n .airborne) (at (n .second) i)
 
--- what the search finds, by the numbers of a kind
+-- what the search finds by the levels of a kind's bands, from the start that the kind tunes; and what it finds of a set
+abbrev pub SoughtBy : Kind → (ℕ → ℕ) → ℕ → ℕ → ℕ → ℕ → Type 0
+SoughtBy k f n limit p shifts = Settled f n limit (startAt f n (startAdd k)) p shifts
+
 abbrev pub Sought : Kind → BandSet → ℕ → ℕ → Type 0
-Sought k s p shifts =
-    Settled (levelAt (airborne k) s (entriesOf k)) (bandsOf k) (limitOf k)
-    (startAt (levelAt (airborne k) s (entriesOf k)) (bandsOf k) (startAdd k)) p shifts
+Sought k s p shifts = SoughtBy k (levelAt (airborne k) s (entriesOf k)) (bandsOf k) (limitOf k) p shifts
 
 -- the least level of a set and the tenths that all its energies stand above it
 pub record WeighedOf (f : ℕ → ℕ) (n least step : ℕ) : Type 0 where

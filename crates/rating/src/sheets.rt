@@ -24,13 +24,13 @@ use quantity::Tenths;
 use quantity::signed::less;
 ghost use mathlib.Core.Path.{_≡_};
 ghost use mathlib.Core.Bool.{true};
-ghost use Prim.Native.Nat.{ℕ, _<_};
+ghost use Prim.Native.Nat.{ℕ, _≤_, _<_};
 ghost use Rattle.energy.specs.Energies.{Tables};
 ghost use Rattle.quantity.specs.Quantities.{halfUp, bandOf};
 ghost use Rattle.curve.specs.Bands.{accepted};
 ghost use Rattle.curve.specs.Levels.{Entries, Count, at, levelAt};
 ghost use Rattle.rating.specs.Kinds.{bandsOf};
-ghost use Rattle.rating.specs.Numbers.{Sought, WeighedOf, ratingBy, termBy, termOf};
+ghost use Rattle.rating.specs.Numbers.{SoughtBy, WeighedOf, ratingBy, termBy, termOf};
 ghost use Rattle.rating.specs.Curve.{ratingOf};
 ghost use Rattle.rating.specs.Sheets.{sheetOf, ratedOf, outcomeOf, singleOf};
 
@@ -68,17 +68,14 @@ struct Weighed {
     step: u32,
 }
 
-// The accepted position of an accepted set, with the shifts from its start.
-fn sought(kind: Kind, set: BandSet) -> Accepted
-    requires { ⌜ accepted set (bandsOf kind) ≡ true ⌝ }
-    ensures { λ r. ⌜ Sought kind set (r .at .0) (r .shifts) ⌝ }
+// The accepted position by the levels of a kind's bands, with the shifts from its start.
+fn sought(kind: Kind, levels: &[u32; 16], bands: usize, limit: u32) -> Accepted
+    requires { ⌜ bands ≡ bandsOf kind ⌝ }
+    requires { ⌜ ((i : ℕ) → i < bands → at (now levels) i ≤ 4500) ⌝ }
+    ensures { λ r. ⌜ SoughtBy kind (at (now (levels .entry))) bands limit (r .at .0) (r .shifts) ⌝ }
 {
-    let n = numbers_of(kind);
-    let bands = n.bands;
-    let entries = n.entries;
-    let levels = levels(set, bands, n.airborne, entries);
-    let start = start_of(kind, sum(&levels, bands));
-    settle(&levels, bands, n.limit, start)
+    let start = start_of(kind, sum(levels, bands));
+    settle(levels, bands, limit, start)
 }
 
 // The energies of a set, by the entries of one spectrum.
@@ -168,7 +165,9 @@ pub fn sheet_of(
     ensures { λ r. ⌜ r ≡ sheetOf kind set ⌝ }
 {
     let n = numbers_of(kind);
-    let accepted = sought(kind, set);
+    let entries = n.entries;
+    let levels = levels(set, n.bands, n.airborne, entries);
+    let accepted = sought(kind, &levels, n.bands, n.limit);
     let p = accepted.at;
     let shifts = accepted.shifts;
     let origin = n.origin;
@@ -237,7 +236,9 @@ fn rating_of(kind: Kind, set: BandSet) -> Decibels
     ensures { λ r. ⌜ r .0 ≡ ratingOf kind (bandOf set) ⌝ }
 {
     let n = numbers_of(kind);
-    let accepted = sought(kind, set);
+    let entries = n.entries;
+    let levels = levels(set, n.bands, n.airborne, entries);
+    let accepted = sought(kind, &levels, n.bands, n.limit);
     let origin = n.origin;
     rating_at(accepted.at, n.airborne, origin)
 }

@@ -7,54 +7,68 @@ use Prim.Native.Nat.{_<_}
 use Rattle.energy.specs.Energies.{Tables}
 use Rattle.curve.specs.Bands.{accepted}
 use Rattle.curve.specs.Levels.{Count}
+use Rattle.curve.proofs.Searched.{count-most}
 use Rattle.rating.specs.declared.sheets.Term.{Term}
+use Rattle.rating.specs.Numbers.{Sought}
 use Rattle.rating.specs.Sheets.{sheetOf}
-use Rattle.rating.proofs.Sheeted.{Fetched, fetched, position-small, SecondAt, given, absent, sheet-made}
+use Rattle.rating.proofs.Sheeted.{Fetched, fetched, levels-fit, sought-by, position-small, SecondAt, given, absent, sheet-made}
 use Rattle.rating.proofs.sheets.sheet_of.Statement.{statement}
 use Rattle.rating.proofs.sheets.sheet_of.Tie as tie
 
 numbers-of-requires : tie.Need-numbers-of-requires
 numbers-of-requires c κs = search needs
 
--- the numbers fetched are sound, and the position found is small
+-- the numbers fetched are sound
 got : (c : tie.After-numbers-of) → Fetched (c .before .args .set) (c .numbers-of .result)
 got c = fetched (c .before .args .kind) (c .before .args .set) (c .numbers-of .result) (c .numbers-of .ensures) (c .before .pre .1)
 
-small : (c : tie.After-sought) → c .sought .result .at .0 < 500
-small c =
-    position-small (c .before .before .args .kind) _ _ _ (c .before .before .pre .1) (c .sought .ensures)
+levels-requires : tie.Need-levels-requires
+levels-requires c κs = let g = got (c .before) in (count-most (g .sound .count), (g .acc, g .sound .entries))
 
 sought-requires : tie.Need-sought-requires
-sought-requires c κs = c .before .pre .1
+sought-requires c κs =
+    let l = c .before in
+    let n = l .before .before in
+    levels-fit _ _ _ _ (n .numbers-of .ensures) (n .before .pre .1) (l .levels .ensures)
+
+-- where the numbers were fetched, and what the search found of the set
+abbrev start : tie.After-sought → tie.After-numbers-of
+start c = c .before .before .before .before
+
+sought : (c : tie.After-sought) → let a = start c .before .args in Sought (a .kind) (a .set) (c .sought .result .at .0) (c .sought .result .shifts)
+sought c = sought-by _ _ _ _ _ _ (start c .numbers-of .ensures) (c .before .before .levels .ensures) (c .sought .ensures)
+
+small : (c : tie.After-sought) → c .sought .result .at .0 < 500
+small c = position-small (start c .before .args .kind) _ _ _ (start c .before .pre .1) (sought c)
 
 rating-at-requires : tie.Need-rating-at-requires
-rating-at-requires c κs = (small (c .before .before), got (c .before .before .before) .sound .near)
+rating-at-requires c κs = (small (c .before .before), got (start (c .before .before)) .sound .near)
 
 -- where the position was found
 abbrev found : tie.After-marked → tie.After-sought
 found c = c .before .before .before .before .before .before
 
 -- what a term asks, but for the entries of its spectrum
-asked : (c : tie.After-sought) {E : Type 0} → E → let a = c .before .before .args in
-    let n = c .before .numbers-of .result in
+asked : (c : tie.After-sought) {E : Type 0} → E → let a = start c .before .args in
+    let n = start c .numbers-of .result in
     Tables (a .powers .now) (a .thresholds .now) (a .starts .now)
     × (Count (n .bands) × ((n .origin .0 < 200) × ((accepted (a .set) (n .bands) ≡ true) × (E × (c .sought .result .at .0 < 500)))))
-asked c e = let f = got (c .before) in (c .before .before .pre .0, (f .sound .count, (f .sound .near, (f .acc, (e, small c)))))
+asked c e = let f = got (start c) in (start c .before .pre .0, (f .sound .count, (f .sound .near, (f .acc, (e, small c)))))
 
 term-of-requires : tie.Need-term-of-requires
-term-of-requires c κs = asked (c .before .before .before .before) (got (c .before .before .before .before .before) .sound .first)
+term-of-requires c κs = asked (c .before .before .before .before) (got (start (c .before .before .before .before)) .sound .first)
 
 marked-requires : tie.Need-marked-requires
 marked-requires c κs = search needs
 
 term-of-requires-2 : tie.Need-term-of-requires-2
 term-of-requires-2 c κs =
-    asked (found (c .before .before)) (got (found (c .before .before) .before) .sound .second)
+    asked (found (c .before .before)) (got (start (found (c .before .before))) .sound .second)
 
 -- the sheet is the defined one, once its second term is
 made : (c : tie.After-marked) (second : Term) → let s = found c in
-    let a = s .before .before .args in
-    SecondAt (s .before .numbers-of .result) (a .set) (s .sought .result .at .0) second
+    let a = start s .before .args in
+    SecondAt (start s .numbers-of .result) (a .set) (s .sought .result .at .0) second
     → record {
       rating = c .before .before .before .rating-at .result;
       first = c .before .term-of .result;
@@ -64,7 +78,7 @@ made : (c : tie.After-marked) (second : Term) → let s = found c in
     } ≡ sheetOf (a .kind) (a .set)
 made c second e =
     let s = found c in
-    sheet-made (s .before .before .args .kind) _ (s .before .before .pre .1) _ (s .before .numbers-of .ensures) _ _ (s .sought .ensures) (c .marked .ensures)
+    sheet-made _ _ (start s .before .pre .1) _ (start s .numbers-of .ensures) _ _ (sought s) (c .marked .ensures)
     (record { rating = c .before .before .before .rating-at .ensures; first = c .before .term-of .ensures; second = e })
 
 returns : tie.Need-returns
@@ -78,6 +92,7 @@ sheet-of-spec =
     tie.close
     (tie.spec
     numbers-of-requires
+    levels-requires
     sought-requires
     rating-at-requires
     term-of-requires
