@@ -31,8 +31,7 @@ use Rattle.rating.specs.Sheets.{decibels, firstBy, secondBy, sheetOf}
 use Rattle.rating.specs.Numbers.{weightBy, firstOf, secondOf, startAdd, numbersOf, Sound, SoughtBy, Sought, ratingAt, ratingBy, termOf}
 use Rattle.rating.proofs.Facts.{count-of, first-fit, second-fit, sound-of}
 use Rattle.rating.proofs.Meaning.{rating-is, shifts-is, start-below}
-use Rattle.rating.proofs.Rated.{bands-are}
-use Rattle.rating.proofs.Weighing.{airborne-term, impact-term}
+use Rattle.rating.proofs.Weighing.{term-alike, airborne-term, impact-term}
 
 -- an airborne weight, by the parts of its spectrum value
 weight-parts : (L : ℤ) → 200 ≤ weightBy true L → weightBy true L + 10 * P L ≡ 200 + 10 * N L
@@ -125,14 +124,13 @@ pub fetched : (k : Kind) (s : BandSet) (m : Numbers) → m ≡ numbersOf k → a
 unfolding numbersOf
 fetched k s m e acc = subst (Fetched s) (sym e) (record { sound = sound-of k; acc = acc })
 
--- what the search asks of the levels found
-pub levels-fit : (k : Kind) (s : BandSet) (m : Numbers) (levels : List ℕ) → m ≡ numbersOf k → accepted s (bandsOf k) ≡ true
-    → Levels (m .airborne) s (m .entries) (m .bands) levels → (m .bands ≡ bandsOf k) × ((i : ℕ) → i < m .bands → at levels i ≤ 4500)
-levels-fit k s m levels e acc l =
-    let f = fetched k s m e acc in
-    (bands-are k m e, levels-most (m .airborne) s (m .entries) (m .bands) (count-most (f .sound .count)) (f .acc) (f .sound .entries) levels l)
+-- the levels found by fitting entries are small
+pub levels-low : (s : BandSet) (m : Numbers) (entries levels : List ℕ) → Fetched s m → ((i : ℕ) → i < 16 → Entries (m .airborne) (at entries i))
+    → Levels (m .airborne) s entries (m .bands) levels → (i : ℕ) → i < m .bands → at levels i ≤ 4500
+levels-low s m entries levels f fits l =
+    levels-most (m .airborne) s entries (m .bands) (count-most (f .sound .count)) (f .acc) fits levels l
 
--- what it finds by them, it finds of the set
+-- what the search finds by them, it finds of the set; and a term by them is the set's
 pub sought-by : (k : Kind) (s : BandSet) (m : Numbers) (levels : List ℕ) (p shifts : ℕ) → m ≡ numbersOf k
     → Levels (m .airborne) s (m .entries) (m .bands) levels → SoughtBy k (at levels) (m .bands) (m .limit) p shifts → Sought k s p shifts
 unfolding numbersOf
@@ -141,6 +139,12 @@ sought-by k s m levels p shifts e l w =
     subst (λ (q : Numbers). SoughtBy k (levelAt (q .airborne) s (q .entries)) (q .bands) (q .limit) p shifts) e
     (settled-alike (at levels) g (m .bands) (m .limit) _ _ p shifts (l .each)
     (ap (λ (t : ℕ). (t + startAdd k) / (10 * m .bands)) (sum-same (at levels) g (m .bands) (l .each))) w)
+
+pub term-by : (s : BandSet) (m : Numbers) (entries levels : List ℕ) (p : ℕ) (d : ℤ) → Sound m → Levels (m .airborne) s entries (m .bands) levels
+    → d ≡ halfUp (termOf (m .airborne) (m .origin .0) (at levels) (m .bands) p)
+    → d ≡ halfUp (termOf (m .airborne) (m .origin .0) (levelAt (m .airborne) s entries) (m .bands) p)
+term-by s m entries levels p d sound l e =
+    e ∙ ap halfUp (term-alike (m .airborne) (m .origin .0) (at levels) (levelAt (m .airborne) s entries) (m .bands) p (count-some (sound .count)) (l .each))
 
 pub position-small : (k : Kind) (s : BandSet) (p shifts : ℕ) → accepted s (bandsOf k) ≡ true → Sought k s p shifts → p < 500
 position-small k s p shifts acc w = omega (arith, start-below k s acc, w .distance)

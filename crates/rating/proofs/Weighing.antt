@@ -13,6 +13,7 @@ use Rattle.laws.proofs.Ints.{plus, minus, apart, times-P, times-N, eq-made}
 use Rattle.laws.proofs.Sums.{sum-same}
 use Rattle.energy.specs.Energies.{F, u, levelRule}
 use Rattle.curve.specs.Levels.{minTo, leastOf, energiesOf}
+use Rattle.curve.proofs.Searched.{least-alike, energies-alike}
 use Rattle.curve.proofs.Walks.{min-below}
 use Rattle.laws.proofs.Counted.{Up, Down, lesser-up, greater-down, above-up, above-down}
 use Rattle.rating.specs.declared.kinds.Kind.{Kind}
@@ -24,6 +25,12 @@ use Rattle.rating.specs.Numbers.{ratingBy, termBy, termOf}
 pub u-small : (S : ℕ) → u S < 256
 unfolding u
 u-small S = greatest-below 8 (levelRule S)
+
+-- levels that are alike have the same term
+pub term-alike : (sign : Bool) (o : ℕ) (f g : ℕ → ℕ) (n p : ℕ) → 1 ≤ n → ((i : ℕ) → i < n → f i ≡ g i) → termOf sign o f n p ≡ termOf sign o g n p
+term-alike sign o f g n p some h =
+    let m : leastOf f n ≡ leastOf g n = least-alike f g n some h in
+    ap₂ (λ (least S : ℕ). termBy sign o least (u S) p) m (ap (energiesOf f n) m ∙ energies-alike f g n (leastOf g n) h)
 
 least-up : (c : ℕ) (a : ℕ → ℤ) (g : ℕ → ℕ) (n : ℕ) → ((i : ℕ) → i < suc n → Up c (a i) (g i)) → Up c (leastTo a n) (minTo g n)
 unfolding leastTo minTo

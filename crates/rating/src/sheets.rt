@@ -28,7 +28,7 @@ ghost use Prim.Native.Nat.{ℕ, _≤_, _<_};
 ghost use Rattle.energy.specs.Energies.{Tables};
 ghost use Rattle.quantity.specs.Quantities.{halfUp, bandOf};
 ghost use Rattle.curve.specs.Bands.{accepted};
-ghost use Rattle.curve.specs.Levels.{Entries, Count, at, levelAt};
+ghost use Rattle.curve.specs.Levels.{Count, at};
 ghost use Rattle.rating.specs.Kinds.{bandsOf};
 ghost use Rattle.rating.specs.Numbers.{SoughtBy, WeighedOf, ratingBy, termBy, termOf};
 ghost use Rattle.rating.specs.Curve.{ratingOf};
@@ -78,25 +78,20 @@ fn sought(kind: Kind, levels: &[u32; 16], bands: usize, limit: u32) -> Accepted
     settle(levels, bands, limit, start)
 }
 
-// The energies of a set, by the entries of one spectrum.
+// The least of the levels by one spectrum, and the step of their energies.
 fn weigh(
-    set: BandSet,
+    levels: &[u32; 16],
     bands: usize,
-    airborne: bool,
-    entries: [u32; 16],
     powers: &[u32; 901],
     thresholds: &[u64; 120],
     starts: &[u8; 895],
 ) -> Weighed
     requires { ⌜ Tables (now powers) (now thresholds) (now starts) ⌝ }
     requires { ⌜ Count bands ⌝ }
-    requires { ⌜ accepted set bands ≡ true ⌝ }
-    requires { ⌜ ((i : ℕ) → i < 16 → Entries airborne (at entries i)) ⌝ }
-    ensures { λ r. ⌜ WeighedOf (levelAt airborne set entries) bands (r .least) (r .step) ⌝ }
+    ensures { λ r. ⌜ WeighedOf (at (now (levels .entry))) bands (r .least) (r .step) ⌝ }
 {
-    let levels = levels(set, bands, airborne, entries);
-    let least = least(&levels, bands);
-    let sum = energies(&levels, bands, least, powers);
+    let least = least(levels, bands);
+    let sum = energies(levels, bands, least, powers);
     let step = level(thresholds, starts, sum);
     Weighed { least, step }
 }
@@ -127,13 +122,12 @@ fn term_at(w: Weighed, p: Position, airborne: bool, origin: Position) -> Tenths
     }
 }
 
-// A term at position p, by the entries of its spectrum, rounded to a whole decibel.
+// A term at position p, by the levels of its spectrum, rounded to a whole decibel.
 fn term_of(
-    set: BandSet,
+    levels: &[u32; 16],
     bands: usize,
     airborne: bool,
     origin: Position,
-    entries: [u32; 16],
     p: Position,
     powers: &[u32; 901],
     thresholds: &[u64; 120],
@@ -141,13 +135,11 @@ fn term_of(
 ) -> Decibels
     requires { ⌜ Tables (now powers) (now thresholds) (now starts) ⌝ }
     requires { ⌜ Count bands ⌝ }
-    requires { ⌜ origin .0 < 200 ⌝ }
-    requires { ⌜ accepted set bands ≡ true ⌝ }
-    requires { ⌜ ((i : ℕ) → i < 16 → Entries airborne (at entries i)) ⌝ }
-    requires { ⌜ p .0 < 500 ⌝ }
-    ensures { λ r. ⌜ r .0 ≡ halfUp (termOf airborne (origin .0) (levelAt airborne set entries) bands (p .0)) ⌝ }
+    requires { ⌜ ((i : ℕ) → i < bands → at (now levels) i ≤ 4500) ⌝ }
+    requires { ⌜ (origin .0 < 200) × (p .0 < 500) ⌝ }
+    ensures { λ r. ⌜ r .0 ≡ halfUp (termOf airborne (origin .0) (at (now (levels .entry))) bands (p .0)) ⌝ }
 {
-    let w = weigh(set, bands, airborne, entries, powers, thresholds, starts);
+    let w = weigh(levels, bands, powers, thresholds, starts);
     let tenths = term_at(w, p, airborne, origin);
     tenths.rounded()
 }
@@ -166,19 +158,19 @@ pub fn sheet_of(
 {
     let n = numbers_of(kind);
     let entries = n.entries;
-    let levels = levels(set, n.bands, n.airborne, entries);
-    let accepted = sought(kind, &levels, n.bands, n.limit);
+    let by_curve = levels(set, n.bands, n.airborne, entries);
+    let accepted = sought(kind, &by_curve, n.bands, n.limit);
     let p = accepted.at;
     let shifts = accepted.shifts;
     let origin = n.origin;
     let rating = rating_at(p, n.airborne, origin);
     let spectrum = n.first;
+    let by_first = levels(set, n.bands, n.airborne, spectrum);
     let first = term_of(
-        set,
+        &by_first,
         n.bands,
         n.airborne,
         origin,
-        spectrum,
         p,
         powers,
         thresholds,
@@ -187,12 +179,12 @@ pub fn sheet_of(
     let limit = marked(kind, set.marks);
     if n.airborne {
         let other = n.second;
+        let by_second = levels(set, n.bands, n.airborne, other);
         let second = Term::Given(term_of(
-            set,
+            &by_second,
             n.bands,
             n.airborne,
             origin,
-            other,
             p,
             powers,
             thresholds,
@@ -237,8 +229,8 @@ fn rating_of(kind: Kind, set: BandSet) -> Decibels
 {
     let n = numbers_of(kind);
     let entries = n.entries;
-    let levels = levels(set, n.bands, n.airborne, entries);
-    let accepted = sought(kind, &levels, n.bands, n.limit);
+    let by_curve = levels(set, n.bands, n.airborne, entries);
+    let accepted = sought(kind, &by_curve, n.bands, n.limit);
     let origin = n.origin;
     rating_at(accepted.at, n.airborne, origin)
 }

@@ -2,7 +2,8 @@
 use borrow.Author.Needs.{needs}
 use Rattle.curve.proofs.Searched.{count-most}
 use Rattle.rating.specs.Numbers.{Sought}
-use Rattle.rating.proofs.Sheeted.{Fetched, fetched, levels-fit, sought-by, position-small, rating-made}
+use Rattle.rating.proofs.Rated.{bands-are}
+use Rattle.rating.proofs.Sheeted.{Fetched, fetched, levels-low, sought-by, position-small, rating-made}
 use Rattle.rating.proofs.sheets.rating_of.Statement.{statement}
 use Rattle.rating.proofs.sheets.rating_of.Tie as tie
 
@@ -20,7 +21,7 @@ sought-requires : tie.Need-sought-requires
 sought-requires c κs =
     let l = c .before in
     let n = l .before .before in
-    levels-fit _ _ _ _ (n .numbers-of .ensures) (n .before .pre) (l .levels .ensures)
+    (bands-are _ _ (n .numbers-of .ensures), levels-low _ _ _ _ (got n) (got n .sound .entries) (l .levels .ensures))
 
 -- where the numbers were fetched, and what the search found of the set
 abbrev start : tie.After-sought → tie.After-numbers-of

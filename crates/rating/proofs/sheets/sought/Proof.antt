@@ -1,7 +1,7 @@
 -- `rating::sheets::sought` meets its contract: the sum is that of the levels, and small, so the start is theirs and small, too.
 -- Assumes nothing.
 use mathlib.Core.Path.{_≡_, refl, sym, _∙_, ap₂, subst}
-use Prim.Native.Nat.{ℕ, _+_, _*_, _/_, _≤_, _<_}
+use Prim.Native.Nat.{ℕ, _+_, _*_, _/_, _≤_}
 use native.Mathlib.Omega.{arith}
 use Rattle.laws.proofs.Sums.{sum-bound}
 use Rattle.curve.specs.Levels.{at, startAt}

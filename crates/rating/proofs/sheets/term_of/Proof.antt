@@ -8,16 +8,16 @@ use lib.IntN.{ℤ}
 use Rattle.laws.specs.Parts.{P, N}
 use Rattle.laws.proofs.Ints.{ints}
 use Rattle.quantity.specs.Quantities.{halfUp}
-use Rattle.curve.specs.Levels.{levelAt, leastOf, energiesOf}
-use Rattle.curve.proofs.Searched.{count-most, count-some, level-at-most, least-below}
+use Rattle.curve.specs.Levels.{at, leastOf, energiesOf}
+use Rattle.curve.proofs.Searched.{count-some, least-below}
 use Rattle.rating.specs.Numbers.{termBy}
 use Rattle.rating.proofs.Weighing.{u-small, term-small}
 use Rattle.rating.proofs.sheets.term_of.Statement.{statement}
 use Rattle.rating.proofs.sheets.term_of.Tie as tie
 
--- the levels by the entries of the spectrum, and the term by a least and a step
+-- the levels lent, and the term by a least and a step
 abbrev level : tie.Start → ℕ → ℕ
-level s = levelAt (s .args .airborne) (s .args .set) (s .args .entries)
+level s = at (s .args .levels .now)
 
 abbrev term : tie.Start → ℕ → ℕ → ℤ
 term s least step = termBy (s .args .airborne) (s .args .origin .0) least step (s .args .p .0)
@@ -37,21 +37,18 @@ small c =
     let n : ℕ = b .args .bands in
     let k : 1 ≤ n = count-some (b .pre .1 .0) in
     record {
-      least = omega (
-        arith,
-        c .weigh .ensures .least-is,
-        least-below g n 0 k,
-        level-at-most _ _ (b .args .entries) n (count-most (b .pre .1 .0)) (b .pre .1 .1 .1 .0) (b .pre .1 .1 .1 .1 .0) 0 k,
-      );
+      least = omega (arith, c .weigh .ensures .least-is, least-below g n 0 k, b .pre .1 .1 .0 0 k);
       step = omega (arith, c .weigh .ensures .step-is, u-small (energiesOf g n (leastOf g n)));
     }
 
 -- so the term is far within what is rounded
 within : (c : tie.After-weigh) → let t = term (c .before) (c .weigh .result .least) (c .weigh .result .step) in (P t ≤ 10000) × (N t ≤ 10000)
-within c = term-small (c .before .args .airborne) _ _ _ _ (c .before .pre .1 .1 .0) (small c .least) (small c .step) (c .before .pre .1 .1 .1 .1 .1)
+within c =
+    let q = c .before .pre .1 .1 .1 in
+    term-small (c .before .args .airborne) _ _ _ _ (q .0) (small c .least) (small c .step) (q .1)
 
 term-at-requires : tie.Need-term-at-requires
-term-at-requires c κs = (c .before .pre .1 .1 .1 .1 .1, c .before .pre .1 .1 .0, small c .least, small c .step)
+term-at-requires c κs = let q = c .before .pre .1 .1 .1 in (q .1, q .0, small c .least, small c .step)
 
 rounded-requires : tie.Need-rounded-requires
 rounded-requires c κs =
