@@ -1,5 +1,4 @@
 -- Laws of the lift list.
-pub mod Joined
 pub mod Reached
 pub mod Listing
 pub mod Answers

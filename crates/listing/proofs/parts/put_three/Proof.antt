@@ -1,5 +1,5 @@
--- `lift::lists::put_two` meets its contract. The invariant: of the listed sets of the part and two bands more, those whose next
--- band is below band i are written; the sets that start with band i are the piece that `put_last` writes to the tail.
+-- `listing::parts::put_three` meets its contract. The invariant: of the listed sets of the part and three bands more, those whose next
+-- band is below band i are written; the sets that start with band i are the piece that `put_two` writes to the tail.
 -- Assumes nothing.
 use mathlib.Core.List.{List}
 use Prim.Native.Nat.{ℕ, _+_, _-_, _≤_, _<_}
@@ -10,14 +10,14 @@ use Rattle.laws.proofs.Fronts.{Writing, none-written, Turn, turn, same-room, en
 use Rattle.curve.specs.Levels.{at}
 use Rattle.sets.specs.Gains.{joinedBy, PartOf}
 use Rattle.sets.proofs.Joining.{below-band, sum-small, joined-end}
-use Rattle.lift.proofs.Joined.{longer-part, longer-piece}
-use Rattle.lift.proofs.lists.put_two.Statement.{statement}
-use Rattle.lift.proofs.lists.put_two.Tie as tie
+use Rattle.listing.proofs.Joined.{longer-part, longer-piece}
+use Rattle.listing.proofs.parts.put_three.Statement.{statement}
+use Rattle.listing.proofs.parts.put_three.Tie as tie
 
 abbrev Inv-loop : tie.InvT-loop
 Inv-loop part gains bands need out₀ count₀ i₀ out count i =
     (part .from ≤ i)
-    × Writing (joinedBy (at gains) need bands 2 (part .mask) (part .from)) (joinedBy (at gains) need bands 2 (part .mask) i) out₀ count out
+    × Writing (joinedBy (at gains) need bands 3 (part .mask) (part .from)) (joinedBy (at gains) need bands 3 (part .mask) i) out₀ count out
 
 abbrev μ-loop : tie.MeasureT-loop
 μ-loop part gains bands need out₀ count₀ i₀ out count i = bands - i
@@ -25,9 +25,9 @@ abbrev μ-loop : tie.MeasureT-loop
 abbrev start : tie.At-loop Inv-loop μ-loop → tie.Start Inv-loop μ-loop
 start c = c .before .before
 
--- the listed sets of the part and two bands more, from band i on
+-- the listed sets of the part and three bands more, from band i on
 abbrev from : tie.Start Inv-loop μ-loop → ℕ → List ℕ
-from s i = joinedBy (at (s .args .gains .now)) (s .args .need) (s .args .bands) 2 (s .args .part .mask) i
+from s i = joinedBy (at (s .args .gains .now)) (s .args .need) (s .args .bands) 3 (s .args .part .mask) i
 
 in-word : (c : tie.In-loop Inv-loop μ-loop) → c .before .loop .i < 16
 in-word c = omega (arith, c .loop-test .taken, start (c .before) .pre .1 .0 .bands)
@@ -40,13 +40,13 @@ turn-of c = c .before .before .before
 abbrev piece : tie.After-joined Inv-loop μ-loop → List ℕ
 piece c =
     let s = start (turn-of c) in
-    joinedBy (at (s .args .gains .now)) (s .args .need) (s .args .bands) 1 (c .joined .result .mask) (c .joined .result .from)
+    joinedBy (at (s .args .gains .now)) (s .args .need) (s .args .bands) 2 (c .joined .result .mask) (c .joined .result .from)
 
 turned : (c : tie.After-joined Inv-loop μ-loop) → let l = turn-of c in
     Turn (from (start l) (start l .args .part .from)) (piece c) (from (start l) (l .loop .i + 1)) (start l .args .out .now) (l .loop .count) (l .loop .out)
 turned c =
     turn _ _ _ _ _ (start (turn-of c) .pre .1 .1) (turn-of c .loop .inv .1) (piece c) (from (start (turn-of c)) (turn-of c .loop .i + 1))
-    (longer-piece _ _ _ _ _ (c .joined .ensures .0 .0) (c .joined .ensures .1 .1) _ _ 1 (c .before .before .loop-test .taken))
+    (longer-piece _ _ _ _ _ (c .joined .ensures .0 .0) (c .joined .ensures .1 .1) _ _ 2 (c .before .before .loop-test .taken))
 
 -- with the band joined the part is a longer one
 longer : (c : tie.After-joined Inv-loop μ-loop) → let r = c .joined .result in
@@ -70,25 +70,25 @@ joined-requires c κs =
     let p = start l .pre in
     ((in-word (c .before), p .1 .0 .small (l .loop .i)), (below-band _ _ _ _ _ (p .0) _ (l .loop .inv .0), sum-small _ _ _ _ _ (p .0) (p .1 .0 .small)))
 
-mul-put-last : tie.Need-mul-put-last Inv-loop μ-loop
-mul-put-last c = omega (arith, start (turn-of c) .good, turned c .room)
+mul-put-two : tie.Need-mul-put-two Inv-loop μ-loop
+mul-put-two c = omega (arith, start (turn-of c) .good, turned c .room)
 
-sub-put-last : tie.Need-sub-put-last Inv-loop μ-loop
-sub-put-last c = turned c .within
+sub-put-two : tie.Need-sub-put-two Inv-loop μ-loop
+sub-put-two c = turned c .within
 
-part-put-last-start : tie.Need-part-put-last-start Inv-loop μ-loop
-part-put-last-start c = turned c .within
+part-put-two-start : tie.Need-part-put-two-start Inv-loop μ-loop
+part-put-two-start c = turned c .within
 
-part-put-last-end : tie.Need-part-put-last-end Inv-loop μ-loop
-part-put-last-end c = search needs
+part-put-two-end : tie.Need-part-put-two-end Inv-loop μ-loop
+part-put-two-end c = search needs
 
-put-last-requires : tie.Need-put-last-requires Inv-loop μ-loop
-put-last-requires c κs = (longer (c .before), (start (turn-of (c .before)) .pre .1 .0, turned (c .before) .lent))
+put-two-requires : tie.Need-put-two-requires Inv-loop μ-loop
+put-two-requires c κs = (longer (c .before), (start (turn-of (c .before)) .pre .1 .0, turned (c .before) .lent))
 
 add-count : tie.Need-add-count Inv-loop μ-loop
 add-count c =
     let d = c .before .before .before .before in
-    omega (arith, start (turn-of d) .good, turned d .room, c .before .before .put-last .ensures .0)
+    omega (arith, start (turn-of d) .good, turned d .room, c .before .before .put-two .ensures .0)
 
 add-i : tie.Need-add-i Inv-loop μ-loop
 add-i c = omega arith
@@ -101,17 +101,17 @@ loop-again c =
     let p = c .before .before in
     let d = p .before .before in (
       omega (arith, turn-of d .loop .inv .0),
-      turned d .written (p .put-last .result) _ (p .put-last .ensures .0) (p .put-last .ensures .1),
+      turned d .written (p .put-two .result) _ (p .put-two .ensures .0) (p .put-two .ensures .1),
     )
 
 same-length : tie.Need-same-length Inv-loop μ-loop
 same-length c = same-room _ _ _ _ _ (start (c .before) .pre .1 .1) (c .before .loop .inv .1)
 
 returns : tie.Need-returns Inv-loop μ-loop
-returns c = ended _ _ _ _ _ (start (c .before) .pre .1 .1) (c .before .loop .inv .1) (joined-end _ _ _ 1 _ _ (c .loop-test .left))
+returns c = ended _ _ _ _ _ (start (c .before) .pre .1 .1) (c .before .loop .inv .1) (joined-end _ _ _ 2 _ _ (c .loop-test .left))
 
-pub put-two-spec : {M : Type 1} → statement M
-put-two-spec =
+pub put-three-spec : {M : Type 1} → statement M
+put-three-spec =
     tie.close
     (tie.spec
     Inv-loop
@@ -120,11 +120,11 @@ put-two-spec =
     mul-joined
     element-copy-out-joined
     joined-requires
-    mul-put-last
-    sub-put-last
-    part-put-last-start
-    part-put-last-end
-    put-last-requires
+    mul-put-two
+    sub-put-two
+    part-put-two-start
+    part-put-two-end
+    put-two-requires
     add-count
     add-i
     loop-less

@@ -1,4 +1,4 @@
--- `lift::lists::put_last` meets its contract. The invariant: of the listed sets, those with a last band below band i are written.
+-- `listing::parts::put_last` meets its contract. The invariant: of the listed sets, those with a last band below band i are written.
 -- Assumes nothing.
 use mathlib.Core.Path.{_≡_, sym, _∙_, ap, subst}
 use mathlib.Core.List.{List, [], _∷_, _++_}
@@ -13,9 +13,9 @@ use Rattle.laws.proofs.Fronts.{Writing, none-written, one-written, Turn, turn, 
 use Rattle.curve.specs.Levels.{at}
 use Rattle.sets.specs.Gains.{joinedBy}
 use Rattle.sets.proofs.Joining.{Last, last-band, last-none, least-small, joined-end}
-use Rattle.lift.proofs.Joined.{mask-fits, mask-is}
-use Rattle.lift.proofs.lists.put_last.Statement.{statement}
-use Rattle.lift.proofs.lists.put_last.Tie as tie
+use Rattle.listing.proofs.Joined.{mask-fits, mask-is}
+use Rattle.listing.proofs.parts.put_last.Statement.{statement}
+use Rattle.listing.proofs.parts.put_last.Tie as tie
 
 abbrev Inv-loop : tie.InvT-loop
 Inv-loop part gains bands need out₀ left bound count₀ i₀ out count i =

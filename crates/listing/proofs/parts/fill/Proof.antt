@@ -1,4 +1,4 @@
--- `lift::lists::fill` meets its contract. The invariant: the listed sets of at most `more` bands are written; those of one band
+-- `listing::parts::fill` meets its contract. The invariant: the listed sets of at most `more` bands are written; those of one band
 -- more are the next piece of the list. Assumes nothing.
 use mathlib.Core.List.{List}
 use mathlib.Core.Path.{subst}
@@ -9,8 +9,8 @@ use Rattle.laws.proofs.Fronts.{Writing, none-written, Turn, turn, same-room, en
 use Rattle.curve.specs.Levels.{at}
 use Rattle.sets.specs.Gains.{byGains, joinedBy}
 use Rattle.sets.proofs.Joining.{no-part, larger, larger-all, larger-step, larger-end}
-use Rattle.lift.proofs.lists.fill.Statement.{statement}
-use Rattle.lift.proofs.lists.fill.Tie as tie
+use Rattle.listing.proofs.parts.fill.Statement.{statement}
+use Rattle.listing.proofs.parts.fill.Tie as tie
 
 abbrev Inv-loop : tie.InvT-loop
 Inv-loop gains bands need out₀ none count₀ more₀ out count more =

@@ -1,11 +1,11 @@
--- `lift::lists::joined` meets its contract: the new band is above those of the set, so its bit is added to the word. Assumes
+-- `listing::parts::joined` meets its contract: the new band is above those of the set, so its bit is added to the word. Assumes
 -- nothing.
 use mathlib.Core.Path.{refl}
 use native.Mathlib.Omega.{arith}
 use borrow.Author.Needs.{needs}
-use Rattle.lift.proofs.Joined.{mask-fits, mask-is}
-use Rattle.lift.proofs.lists.joined.Statement.{statement}
-use Rattle.lift.proofs.lists.joined.Tie as tie
+use Rattle.listing.proofs.Joined.{mask-fits, mask-is}
+use Rattle.listing.proofs.parts.joined.Statement.{statement}
+use Rattle.listing.proofs.parts.joined.Tie as tie
 
 cast-t4 : tie.Need-cast-t4
 cast-t4 c = search needs

@@ -1,4 +1,4 @@
--- `lift::lists::put_sets` meets its contract: one function for each number of bands still to come. Assumes nothing.
+-- `listing::parts::put_sets` meets its contract: one function for each number of bands still to come. Assumes nothing.
 use mathlib.Core.Path.{_≡_, sym, _∙_, ap, subst}
 use mathlib.Core.List.{List}
 use Prim.Native.Nat.{ℕ, _+_, _≤_}
@@ -8,8 +8,8 @@ use lib.ListN.{length}
 use Rattle.laws.specs.Lists.{front}
 use Rattle.curve.specs.Levels.{at}
 use Rattle.sets.specs.Gains.{joinedBy}
-use Rattle.lift.proofs.lists.put_sets.Statement.{statement}
-use Rattle.lift.proofs.lists.put_sets.Tie as tie
+use Rattle.listing.proofs.parts.put_sets.Statement.{statement}
+use Rattle.listing.proofs.parts.put_sets.Tie as tie
 
 -- the listed sets of the part and n bands more
 abbrev sets : tie.Start → ℕ → List ℕ

@@ -1,0 +1,2 @@
+-- Laws of sets put together band by band.
+pub mod Joined
