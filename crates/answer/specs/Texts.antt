@@ -5,8 +5,8 @@ use Prim.Native.Nat.{ℕ, zero, suc, _+_, _/_, _%_}
 use lib.Dec.{ltb}
 use lib.IntN.{ℤ, pos, negsuc}
 use Rattle.quantity.specs.Refusals.{numberOf}
-use Rattle.rating.specs.declared.kinds.Kind.{Kind}
-use Rattle.rating.specs.declared.kinds.Kind.the-variants.{A3, A1, I3, I1}
+use Rattle.kinds.specs.declared.kinds.Kind.{Kind}
+use Rattle.kinds.specs.declared.kinds.Kind.the-variants.{A3, A1, I3, I1}
 use Rattle.rating.specs.declared.sheets.Term.{Term}
 use Rattle.rating.specs.declared.sheets.Term.the-variants.{Given, Absent}
 use Rattle.rating.specs.declared.sheets.Sheet.{Sheet}

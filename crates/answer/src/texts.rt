@@ -1,7 +1,7 @@
 // The texts of answers: how long they are, and each field written at the front of a lent tail of the output.
+use kinds::Kind;
 use quantity::signed::above;
 use quantity::signed::below;
-use rating::Kind;
 use rating::Rated;
 use rating::Sheet;
 use rating::Term;

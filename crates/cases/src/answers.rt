@@ -1,17 +1,17 @@
 // The calls, by the number that a case begins with, and their answers as text.
-use crate::lists::length_of;
-use crate::lists::list_of;
-use crate::numbers::Case;
-use crate::numbers::NO_CASE;
-use crate::numbers::float;
-use crate::numbers::natural;
-use crate::numbers::signed;
-use crate::places::NO_SET;
-use crate::places::UNWRITTEN;
-use crate::places::print_lent;
-use crate::stated::agrees;
 use intake::Time;
 use libc::STDOUT_FILENO;
+use vectors::lists::length_of;
+use vectors::lists::list_of;
+use vectors::numbers::Case;
+use vectors::numbers::NO_CASE;
+use vectors::numbers::float;
+use vectors::numbers::natural;
+use vectors::numbers::signed;
+use vectors::places::NO_SET;
+use vectors::places::UNWRITTEN;
+use vectors::places::print_lent;
+use vectors::stated::agrees;
 
 // The intake of a time, which is no C function.
 fn take_time(x: f32, out: &mut [i32; 17]) -> u32 {
@@ -41,6 +41,24 @@ fn lift(case: Case, tenths: &[i32], sets: &mut [u16], out: &mut [i32]) -> u32 {
     )
 }
 
+// Makes the call of a case that has no list.
+fn call_alone(case: Case, out: &mut [i32; 17]) -> u32 {
+    match natural(case, 0) {
+        2 => desk_c::imbrolt_reading(natural(case, 1), float(case, 2), out),
+        4 => take_time(float(case, 1), out),
+        5 => desk_c::imbrolt_field(signed(case, 1), signed(case, 2), out),
+        6 => desk_c::imbrolt_laboratory(signed(case, 1), signed(case, 2), out),
+        7 => desk_c::imbrolt_raw(
+            float(case, 1),
+            float(case, 2),
+            float(case, 3),
+            float(case, 4),
+            out,
+        ),
+        _ => NO_CASE,
+    }
+}
+
 // Makes the call of a case, on the first places of its list, as many as are stated.
 fn call(
     case: Case,
@@ -59,24 +77,13 @@ fn call(
     let floats = &floats[..][0..length];
     match natural(case, 0) {
         1 => desk_c::imbrolt_rate(natural(case, 1), tenths, natural(case, 3), out),
-        2 => desk_c::imbrolt_reading(natural(case, 1), float(case, 2), out),
         3 => desk_c::imbrolt_rate_readings(natural(case, 1), marks, floats, out),
-        4 => take_time(float(case, 1), out),
-        5 => desk_c::imbrolt_field(signed(case, 1), signed(case, 2), out),
-        6 => desk_c::imbrolt_laboratory(signed(case, 1), signed(case, 2), out),
-        7 => desk_c::imbrolt_raw(
-            float(case, 1),
-            float(case, 2),
-            float(case, 3),
-            float(case, 4),
-            out,
-        ),
         8 => desk_c::imbrolt_octaves(tenths, natural(case, 2), out),
         9 => desk_c::imbrolt_specimens(marks, floats, out),
         10 => desk_c::imbrolt_cover(tenths, natural(case, 2), out),
         11 => desk_c::imbrolt_grade(natural(case, 1), marks, floats, out),
         12 => lift(case, tenths, sets, out),
-        _ => NO_CASE,
+        _ => call_alone(case, out),
     }
 }
 

@@ -2,13 +2,10 @@
 // tests/reference, to be compared with what the reference says. A line is decimal numbers parted by blanks, the first of
 // which names the call (tests/reference/README.md). Nothing here is part of the library; it is proved to be safe and to end.
 mod answers;
-mod lists;
-mod numbers;
-mod places;
-mod stated;
 
 use libc::STDIN_FILENO;
-use numbers::Case;
+use vectors::numbers;
+use vectors::numbers::Case;
 
 // Feeds what was read, and answers each line that it ends.
 fn take(case: Case, bytes: &[u8]) -> Case {

@@ -7,10 +7,10 @@ use Rattle.quantity.specs.declared.refusals.Refusal.{Refusal}
 use Rattle.quantity.specs.declared.refusals.Outcome.the-variants as outcome
 use Rattle.measurement.specs.declared.lists.Intake.{Intake}
 use Rattle.measurement.specs.Lists.{listOf}
-use Rattle.rating.specs.declared.kinds.Kind.{Kind}
+use Rattle.kinds.specs.declared.kinds.Kind.{Kind}
+use Rattle.kinds.specs.Kinds.{bandsOf}
 use Rattle.rating.specs.declared.sheets.Rated.{Rated}
 use Rattle.rating.specs.declared.sheets.Rated.the-variants.{Refused}
-use Rattle.rating.specs.Kinds.{bandsOf}
 use Rattle.rating.specs.Sheets.{ratedOf}
 use Rattle.desk.specs.Calls.{ratedBy, readingsRated}
 

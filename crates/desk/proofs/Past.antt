@@ -5,8 +5,8 @@ use Prim.Native.Nat.{ℕ}
 use Rattle.quantity.specs.declared.quantities.Reading.{Reading}
 use Rattle.measurement.specs.declared.lists.Intake.{Intake}
 use Rattle.measurement.proofs.Past.{Alike, list-past}
-use Rattle.rating.specs.declared.kinds.Kind.{Kind}
-use Rattle.rating.specs.Kinds.{bandsOf}
+use Rattle.kinds.specs.declared.kinds.Kind.{Kind}
+use Rattle.kinds.specs.Kinds.{bandsOf}
 use Rattle.desk.specs.Calls.{ratedBy, readingsRated}
 
 pub readings-past : (k : Kind) (a b : List Reading) (len : ℕ) → Alike a b len → readingsRated k a len ≡ readingsRated k b len

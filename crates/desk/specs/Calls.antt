@@ -6,9 +6,9 @@ use Rattle.quantity.specs.declared.quantities.Reading.{Reading}
 use Rattle.quantity.specs.declared.refusals.Outcome.{Outcome}
 use Rattle.quantity.specs.declared.refusals.Outcome.the-variants as outcome
 use Rattle.measurement.specs.Lists.{listOf}
-use Rattle.rating.specs.declared.kinds.Kind.{Kind}
+use Rattle.kinds.specs.declared.kinds.Kind.{Kind}
+use Rattle.kinds.specs.Kinds.{bandsOf}
 use Rattle.rating.specs.declared.sheets.Rated.the-variants.{Refused}
-use Rattle.rating.specs.Kinds.{bandsOf}
 -- a rating from tenths: "1", then "4" for the lowest band out of range, else the sheet
 unfoldable pub use Rattle.rating.specs.Sheets.{ratedOf}
 pub use Rattle.rating.specs.declared.sheets.Rated.{Rated}

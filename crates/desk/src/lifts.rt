@@ -1,8 +1,8 @@
 // The lift list.
+use kinds::Kind;
 use lift::Lifted;
 use quantity::BandSet;
 use quantity::Decibels;
-use rating::Kind;
 ghost use mathlib.Core.Path.{_≡_};
 ghost use lib.ListN.{length};
 ghost use Rattle.desk.specs.Quantities.{bandOf};

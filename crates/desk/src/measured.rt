@@ -1,10 +1,10 @@
 // Corrections, raw bands and means of three.
 use intake::Taken;
+use kinds::Kind;
 use measurement::Intake;
 use quantity::BandSet;
 use quantity::Reading;
 use quantity::Tenths;
-use rating::Kind;
 use rooms::RawBand;
 ghost use mathlib.Core.Path.{_≡_};
 ghost use Rattle.desk.specs.Kinds.{bandsOf};

@@ -1,12 +1,12 @@
 // Readings and ratings.
 use intake::Taken;
+use kinds::Kind;
+use kinds::bands_of;
 use measurement::take_list;
 use quantity::BandSet;
 use quantity::Outcome;
 use quantity::Reading;
-use rating::Kind;
 use rating::Rated;
-use rating::bands_of;
 ghost use mathlib.Core.Path.{_≡_};
 ghost use Rattle.desk.specs.Quantities.{takenOf};
 ghost use Rattle.desk.specs.Answers.{takenAnswer, ratedAnswer};

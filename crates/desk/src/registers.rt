@@ -1,10 +1,10 @@
 // The register of request keys, updated where it stands in the caller's memory (document 02, (x) and (xi)). `bill`, `owed` and
 // `close` are of one form: the register is taken from there whole and handed to a step by value; `bill` and `close` put back what
 // the step leaves of it.
+use kinds::Kind;
 use ledger::close_for;
 use quantity::BandSet;
 use quantity::Fen;
-use rating::Kind;
 use register::Billed;
 use register::Owed;
 use register::Register;

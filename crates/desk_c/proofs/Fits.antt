@@ -12,11 +12,11 @@ use Rattle.quantity.specs.declared.quantities.Reading.{Reading}
 use Rattle.quantity.specs.declared.refusals.Outcome.{Outcome}
 use Rattle.quantity.specs.declared.refusals.Outcome.the-variants as outcome
 use Rattle.measurement.specs.Lists.{listOf}
-use Rattle.rating.specs.declared.kinds.Kind.{Kind}
-use Rattle.rating.specs.declared.kinds.Kind.the-variants.{A3}
+use Rattle.kinds.specs.declared.kinds.Kind.{Kind}
+use Rattle.kinds.specs.declared.kinds.Kind.the-variants.{A3}
+use Rattle.kinds.specs.Kinds.{bandsOf}
 use Rattle.rating.specs.declared.sheets.Rated.{Rated}
 use Rattle.rating.specs.declared.sheets.Rated.the-variants.{Rating, Refused}
-use Rattle.rating.specs.Kinds.{bandsOf}
 use Rattle.rating.specs.Sheets.{ratedOf, ratedAnswer}
 use Rattle.products.specs.declared.grades.Side.{Side}
 use Rattle.products.specs.declared.grades.Graded.{Graded}

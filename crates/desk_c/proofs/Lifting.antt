@@ -14,19 +14,17 @@ use Rattle.quantity.specs.Refusals.{numberOf}
 use Rattle.quantity.specs.declared.quantities.BandSet.{BandSet}
 use Rattle.quantity.specs.declared.refusals.Refusal.{Refusal}
 use Rattle.quantity.specs.declared.refusals.Refusal.the-variants.{NotBetter, TargetRange, NoRoom}
-use Rattle.rating.specs.declared.kinds.Kind.{Kind}
-use Rattle.rating.specs.declared.kinds.Kind.the-variants.{A3, A1, I3, I1}
-use Rattle.rating.specs.declared.kinds.Named.{Named}
-use Rattle.rating.specs.declared.kinds.Named.the-variants.{Is, Unknown}
+use Rattle.kinds.specs.declared.kinds.Kind.{Kind}
+use Rattle.kinds.specs.declared.kinds.Named.{Named}
+use Rattle.kinds.specs.declared.kinds.Named.the-variants.{Is, Unknown}
+use Rattle.kinds.specs.Kinds.{airborne, kindOf}
 use Rattle.rating.specs.declared.sheets.Rated.{Rated}
 use Rattle.rating.specs.declared.sheets.Rated.the-variants.{Rating, Refused as Unrated}
-use Rattle.rating.specs.Kinds.{airborne, kindOf}
 use Rattle.rating.specs.Sheets.{ratedOf}
 use Rattle.lift.specs.declared.lists.Lifted.{Lifted}
 use Rattle.lift.specs.declared.lists.Lifted.the-variants.{Count, Refused}
 use Rattle.lift.specs.Reach.{betterBy, liftList}
 use Rattle.lift.specs.Calls.{inTargets, placesOf, tested, countOf, answerBy, answerOf, bufferBy, countAnswer}
-use Rattle.lift.proofs.Listing.{list-room}
 use Rattle.quantity.specs.Answers.{Answer}
 use Rattle.door.specs.Answers.{returned, held}
 use Rattle.quantity.specs.Answers.Answer.{numbers}
@@ -34,19 +32,12 @@ use Rattle.door.specs.Lists.{setFrom}
 use Rattle.door.proofs.Fronts.{stored}
 use Rattle.desk_c.specs.Ratings.{byKind}
 use Rattle.desk_c.specs.Lifts.{listBy, liftAnswer, keptOr, liftHeld}
-use Rattle.laws.proofs.Tests.{clash}
 
 -- what the call leaves: its result, its list and its count
 abbrev pub LiftLeft : Kind → BandSet → ℤ → List ℕ → List ℤ → ℕ → List ℕ → List ℤ → Type 0
 LiftLeft k s t list out r list′ out′ =
     (r ≡ returned (countAnswer (answerOf k s t (length list))) (length out))
     × ((list′ ≡ listBy k s t list (length out)) × (out′ ≡ held (countAnswer (answerOf k s t (length list))) out))
-
-places-small : (k : Kind) → placesOf k ≤ 696
-places-small A3 = omega arith
-places-small A1 = omega arith
-places-small I3 = omega arith
-places-small I1 = omega arith
 
 module _ (k : Kind) (s : BandSet) (t : ℤ) where
   -- with no room for the count, the room for the list does not matter
@@ -105,24 +96,6 @@ module _ (k : Kind) (s : BandSet) (t : ℤ) where
   lift-refused list out a list′ q r h e b c d =
       by-answer list out a list′ h e b r out
       (d ∙ ap (λ (l : Lifted). returned (countAnswer l) (length out)) (sym c)) (ap (λ (l : Lifted). held (countAnswer l) out) (sym c))
-
-  -- a count fits its place
-  pub count-small : (room n : ℕ) → answerOf k s t room ≡ Count n → n ≤ 696
-  unfolding answerOf countOf
-  count-small room n e = by (ratedOf k s) e
-    where
-      tests : (a b x : Bool) → tested a (tested b (tested x (Count (length (liftList k (bandOf s) t))) (Refused NoRoom)) (Refused NotBetter)) (Refused TargetRange) ≡ Count n
-          → n ≤ 696
-      tests false b x h = clash cc
-      tests true false x h = clash cc
-      tests true true false h = clash cc
-      tests true true true h =
-          let q : n ≡ length (liftList k (bandOf s) t) = cc in
-          omega (arith, list-room k (bandOf s) t 696 (places-small k))
-
-      by : (r : Rated) → answerBy r k s t room ≡ Count n → n ≤ 696
-      by (Unrated q) h = clash cc
-      by (Rating sheet) h = tests (inTargets t) (betterBy (airborne k) t (sheet .rating .0)) (leb (placesOf k) room) h
 
 -- ---- by the kind's number
 

@@ -1,9 +1,9 @@
 -- A kind's number that names none, or one. Assumes nothing.
 use mathlib.Core.Path.{_≡_, sym, ap}
 use lib.IntN.{ℤ}
-use Rattle.rating.specs.declared.kinds.Kind.{Kind}
-use Rattle.rating.specs.declared.kinds.Named.{Named}
-use Rattle.rating.specs.declared.kinds.Named.the-variants.{Is, Unknown}
+use Rattle.kinds.specs.declared.kinds.Kind.{Kind}
+use Rattle.kinds.specs.declared.kinds.Named.{Named}
+use Rattle.kinds.specs.declared.kinds.Named.the-variants.{Is, Unknown}
 use Rattle.quantity.specs.Answers.{Answer}
 use Rattle.quantity.specs.Answers.Answer.{refused}
 use Rattle.desk_c.specs.Ratings.{byKind}

@@ -5,10 +5,10 @@ use lib.IntN.{ℤ}
 use lib.Ieee.{Float}
 use lib.ListN.{length}
 use Rattle.intake.specs.Taken.{takenOf, takenAnswer}
-use Rattle.rating.specs.declared.kinds.Kind.{Kind}
-use Rattle.rating.specs.declared.kinds.Named.{Named}
-use Rattle.rating.specs.declared.kinds.Named.the-variants.{Is, Unknown}
-use Rattle.rating.specs.Kinds.{kindOf}
+use Rattle.kinds.specs.declared.kinds.Kind.{Kind}
+use Rattle.kinds.specs.declared.kinds.Named.{Named}
+use Rattle.kinds.specs.declared.kinds.Named.the-variants.{Is, Unknown}
+use Rattle.kinds.specs.Kinds.{kindOf}
 use Rattle.rating.specs.Sheets.{ratedOf, ratedAnswer}
 use Rattle.quantity.specs.Answers.{Answer}
 use Rattle.quantity.specs.Answers.Answer.{refused}

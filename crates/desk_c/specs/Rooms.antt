@@ -4,8 +4,8 @@ use Prim.Native.Nat.{ℕ}
 use lib.IntN.{ℤ}
 use lib.Ieee.{Float}
 use lib.ListN.{length}
-use Rattle.rating.specs.declared.kinds.Kind.the-variants.{A3, A1}
-use Rattle.rating.specs.Kinds.{bandsOf}
+use Rattle.kinds.specs.declared.kinds.Kind.the-variants.{A3, A1}
+use Rattle.kinds.specs.Kinds.{bandsOf}
 use Rattle.rooms.specs.declared.raw.RawBand.{RawBand}
 use Rattle.rooms.specs.Background.{fieldOf, laboratoryOf}
 use Rattle.rooms.specs.Raw.{rawOf}

@@ -1,11 +1,11 @@
 // The lift list.
 use door::set_from;
+use kinds::Kind;
+use kinds::Named;
+use kinds::kind_of;
 use lift::Lifted;
 use quantity::BandSet;
 use quantity::Decibels;
-use rating::Kind;
-use rating::Named;
-use rating::kind_of;
 ghost use mathlib.Core.Path.{_≡_};
 ghost use lib.ListN.{length};
 ghost use Rattle.lift.specs.Calls.{answerOf, countAnswer};

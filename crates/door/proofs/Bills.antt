@@ -14,10 +14,10 @@ use Rattle.quantity.specs.Answers.{Answer}
 use Rattle.quantity.specs.Answers.Answer.{numbers}
 use Rattle.quantity.specs.declared.quantities.BandSet.{BandSet}
 use Rattle.quantity.specs.declared.quantities.Fen.{Fen}
-use Rattle.rating.specs.declared.kinds.Kind.{Kind}
-use Rattle.rating.specs.declared.kinds.Named.{Named}
+use Rattle.kinds.specs.declared.kinds.Kind.{Kind}
+use Rattle.kinds.specs.declared.kinds.Named.{Named}
+use Rattle.kinds.specs.Kinds.{kindOf}
 use Rattle.rating.specs.declared.sheets.Sheet.{Sheet}
-use Rattle.rating.specs.Kinds.{kindOf}
 use Rattle.rating.specs.Sheets.{sheetNumbers}
 use Rattle.register.specs.declared.registers.Register.{Register}
 use Rattle.register.specs.declared.steps.Billed.{Billed}

@@ -9,10 +9,10 @@ use Rattle.quantity.specs.Answers.Answer.{refused}
 use Rattle.quantity.specs.declared.quantities.BandSet.{BandSet}
 use Rattle.quantity.specs.Keys.{keyShape}
 use Rattle.quantity.specs.declared.refusals.Refusal.the-variants.{BandCount}
-use Rattle.rating.specs.declared.kinds.Kind.the-variants.{A3}
-use Rattle.rating.specs.declared.kinds.Named.{Named}
-use Rattle.rating.specs.declared.kinds.Named.the-variants.{Unknown}
-use Rattle.rating.specs.Kinds.{kindOf}
+use Rattle.kinds.specs.declared.kinds.Kind.the-variants.{A3}
+use Rattle.kinds.specs.declared.kinds.Named.{Named}
+use Rattle.kinds.specs.declared.kinds.Named.the-variants.{Unknown}
+use Rattle.kinds.specs.Kinds.{kindOf}
 use Rattle.rating.proofs.Rated.{wrong-count}
 use Rattle.register.specs.declared.registers.Register.{Register}
 use Rattle.entry.specs.Entries.{callOf}

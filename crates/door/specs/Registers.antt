@@ -6,11 +6,11 @@ use lib.Dec.{leb}
 use lib.IntN.{ℤ}
 use Rattle.quantity.specs.Answers.{Answer}
 use Rattle.quantity.specs.declared.quantities.BandSet.{BandSet}
-use Rattle.rating.specs.declared.kinds.Kind.{Kind}
-use Rattle.rating.specs.declared.kinds.Kind.the-variants.{A3}
-use Rattle.rating.specs.declared.kinds.Named.{Named}
-use Rattle.rating.specs.declared.kinds.Named.the-variants.{Is, Unknown}
-use Rattle.rating.specs.Kinds.{kindOf}
+use Rattle.kinds.specs.declared.kinds.Kind.{Kind}
+use Rattle.kinds.specs.declared.kinds.Kind.the-variants.{A3}
+use Rattle.kinds.specs.declared.kinds.Named.{Named}
+use Rattle.kinds.specs.declared.kinds.Named.the-variants.{Is, Unknown}
+use Rattle.kinds.specs.Kinds.{kindOf}
 use Rattle.register.specs.declared.registers.Register.{Register}
 use Rattle.register.specs.declared.steps.Billed.{Billed}
 use Rattle.register.specs.declared.steps.Billed.the-variants as billed

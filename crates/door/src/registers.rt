@@ -2,12 +2,12 @@
 use crate::given::give;
 use crate::given::sheet_numbers;
 use crate::lists::set_from;
+use kinds::Kind;
+use kinds::Named;
+use kinds::kind_of;
 use ledger::close_for;
 use quantity::BandSet;
 use quantity::Fen;
-use rating::Kind;
-use rating::Named;
-use rating::kind_of;
 use register::Billed;
 use register::Owed;
 use register::Register;

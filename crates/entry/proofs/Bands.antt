@@ -18,10 +18,10 @@ use Rattle.quantity.specs.declared.quantities.Tenths.{Tenths}
 use Rattle.quantity.specs.declared.quantities.BandSet.{BandSet}
 use Rattle.quantity.proofs.Rim.{back}
 use Rattle.laws.proofs.Ranges.{all-at, all-made}
-use Rattle.rating.specs.declared.kinds.Kind.{Kind}
-use Rattle.rating.specs.declared.kinds.Kind.the-variants.{A3, A1, I3, I1}
-use Rattle.rating.specs.Kinds.{bandsOf, kindOf, kindNumber}
-use Rattle.rating.proofs.Numbered.{kind-of-number}
+use Rattle.kinds.specs.declared.kinds.Kind.{Kind}
+use Rattle.kinds.specs.declared.kinds.Kind.the-variants.{A3, A1, I3, I1}
+use Rattle.kinds.specs.Kinds.{bandsOf, kindOf, kindNumber}
+use Rattle.kinds.proofs.Numbered.{kind-of-number}
 use Rattle.entry.specs.declared.entries.Entry.{Entry}
 use Rattle.entry.specs.Entries.{valueOf, marksTo, sameValue, sameValues, sameMarks, bandsBy, bandsIn, sameBands, keptValue, Call, callOf, entryOf}
 use Rattle.quantity.specs.Quantities.{nought}

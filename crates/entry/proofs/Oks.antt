@@ -10,12 +10,12 @@ use Rattle.quantity.specs.Quantities.{priced}
 use Rattle.quantity.specs.declared.quantities.BandSet.{BandSet}
 use Rattle.quantity.specs.declared.refusals.Refusal.{Refusal}
 use Rattle.curve.specs.Bands.{accepted}
-use Rattle.rating.specs.declared.kinds.Kind.{Kind}
-use Rattle.rating.specs.declared.kinds.Named.{Named}
-use Rattle.rating.specs.declared.kinds.Named.the-variants.{Is}
+use Rattle.kinds.specs.declared.kinds.Kind.{Kind}
+use Rattle.kinds.specs.declared.kinds.Named.{Named}
+use Rattle.kinds.specs.declared.kinds.Named.the-variants.{Is}
+use Rattle.kinds.specs.Kinds.{bandsOf, kindOf}
 use Rattle.rating.specs.declared.sheets.Sheet.{Sheet}
 use Rattle.rating.specs.declared.sheets.Rated.the-variants.{Rating, Refused}
-use Rattle.rating.specs.Kinds.{bandsOf, kindOf}
 use Rattle.rating.specs.Sheets.{ratedOf, sheetOf, asked}
 use Rattle.entry.specs.declared.entries.Entry.{Entry}
 use Rattle.entry.specs.Entries.{keyOf, setOf, isSheet, ratable, keyed, entryOk}

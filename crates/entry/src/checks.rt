@@ -2,12 +2,12 @@
 use crate::entries::Entry;
 use crate::entries::set_of;
 use curve::levels::all_in_range;
+use kinds::Named;
+use kinds::bands_of;
+use kinds::kind_of;
 use quantity::is_key_of;
-use rating::Named;
-use rating::bands_of;
-use rating::kind_of;
 ghost use mathlib.Core.Path.{_≡_};
-ghost use Rattle.rating.specs.Kinds.{kindOf};
+ghost use Rattle.kinds.specs.Kinds.{kindOf};
 ghost use Rattle.entry.specs.Entries.{ratable, keyed, entryOk};
 
 fn is_ratable(e: Entry) -> bool

@@ -1,20 +1,20 @@
 // Entries: what each says, when two say the same, and the one that a call makes.
+use kinds::A1Kind;
+use kinds::A3Kind;
+use kinds::I1Kind;
+use kinds::I3Kind;
+use kinds::Kind;
+use kinds::bands_of;
+use kinds::kind_number;
 use quantity::BandSet;
 use quantity::Fen;
 use quantity::Tenths;
 use quantity::byte;
-use rating::A1Kind;
-use rating::A3Kind;
-use rating::I1Kind;
-use rating::I3Kind;
-use rating::Kind;
-use rating::bands_of;
-use rating::kind_number;
 ghost use mathlib.Core.Path.{_≡_};
 ghost use Prim.Native.Nat.{_≤_, _<_};
 ghost use lib.ListN.{length, getD};
 ghost use Rattle.laws.specs.Lists.{listed};
-ghost use Rattle.rating.specs.Kinds.{bandsOf, kindNumber};
+ghost use Rattle.kinds.specs.Kinds.{bandsOf, kindNumber};
 ghost use Rattle.entry.specs.Entries.{noEntry, sameText, sameValue, sameKey, sameValues, sameBands, setOf, marksTo, keptValue, callOf, entryOf};
 
 // What is kept of a sheet that was billed. The first `length` bytes of `key`, and as many values and marks as the kind has

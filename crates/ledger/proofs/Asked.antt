@@ -17,14 +17,14 @@ use Rattle.quantity.specs.Quantities.{priced}
 use Rattle.quantity.specs.declared.quantities.BandSet.{BandSet}
 use Rattle.quantity.specs.declared.quantities.Fen.{Fen}
 use Rattle.quantity.specs.declared.refusals.Refusal.the-variants.{NotRequest, PriceRange, OtherBands, RegisterFull, RegisterDamaged}
-use Rattle.rating.specs.declared.kinds.Kind.{Kind}
-use Rattle.rating.specs.declared.kinds.Named.the-variants.{Is}
+use Rattle.kinds.specs.declared.kinds.Kind.{Kind}
+use Rattle.kinds.specs.declared.kinds.Named.the-variants.{Is}
+use Rattle.kinds.specs.Kinds.{bandsOf, kindOf, kindNumber}
+use Rattle.kinds.proofs.Numbered.{kind-of-number}
 use Rattle.rating.specs.declared.sheets.Sheet.{Sheet}
 use Rattle.rating.specs.declared.sheets.Rated.{Rated}
 use Rattle.rating.specs.declared.sheets.Rated.the-variants as rating
-use Rattle.rating.specs.Kinds.{bandsOf, kindOf, kindNumber}
 use Rattle.rating.specs.Sheets.{ratedOf}
-use Rattle.rating.proofs.Numbered.{kind-of-number}
 use Rattle.rating.proofs.Theorems.{Stated, past-length}
 use Rattle.entry.specs.declared.entries.Entry.{Entry}
 use Rattle.register.specs.declared.registers.Register.{Register}

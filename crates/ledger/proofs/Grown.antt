@@ -25,14 +25,14 @@ use Rattle.quantity.proofs.Shapes.{key-shape}
 use Rattle.laws.specs.Tests.{allTo, anyTo}
 use Rattle.laws.proofs.Ranges.{all-more, all-same, any-same}
 use Rattle.curve.proofs.Searched.{count-most}
-use Rattle.rating.specs.declared.kinds.Kind.{Kind}
-use Rattle.rating.specs.declared.kinds.Named.{Named}
+use Rattle.kinds.specs.declared.kinds.Kind.{Kind}
+use Rattle.kinds.specs.declared.kinds.Named.{Named}
+use Rattle.kinds.specs.Kinds.{bandsOf}
+use Rattle.kinds.proofs.Facts.{count-of}
+use Rattle.kinds.proofs.Numbered.{kind-of-number}
 use Rattle.rating.specs.declared.sheets.Sheet.{Sheet}
 use Rattle.rating.specs.declared.sheets.Rated.the-variants.{Rating}
-use Rattle.rating.specs.Kinds.{bandsOf}
 use Rattle.rating.specs.Sheets.{ratedOf}
-use Rattle.rating.proofs.Facts.{count-of}
-use Rattle.rating.proofs.Numbered.{kind-of-number}
 use Rattle.rating.proofs.Theorems.{past-length}
 use Rattle.entry.specs.declared.entries.Entry.{Entry}
 use Rattle.register.specs.declared.registers.Register.{Register}

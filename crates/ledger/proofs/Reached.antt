@@ -21,16 +21,16 @@ use Rattle.quantity.specs.declared.refusals.Refusal.the-variants.{BandCount, Ba
 use Rattle.curve.specs.Bands.{accepted}
 use Rattle.laws.specs.Tests.{anyTo}
 use Rattle.laws.proofs.Ranges.{all-at, any-same}
-use Rattle.rating.specs.declared.kinds.Kind.{Kind}
-use Rattle.rating.specs.declared.kinds.Kind.the-variants.{A3}
-use Rattle.rating.specs.declared.kinds.Named.{Named}
-use Rattle.rating.specs.declared.kinds.Named.the-variants.{Is, Unknown}
+use Rattle.kinds.specs.declared.kinds.Kind.{Kind}
+use Rattle.kinds.specs.declared.kinds.Kind.the-variants.{A3}
+use Rattle.kinds.specs.declared.kinds.Named.{Named}
+use Rattle.kinds.specs.declared.kinds.Named.the-variants.{Is, Unknown}
+use Rattle.kinds.specs.Kinds.{bandsOf, kindOf, kindNumber}
+use Rattle.kinds.proofs.Numbered.{kind-of-number, kind-number-of}
 use Rattle.rating.specs.declared.sheets.Sheet.{Sheet}
 use Rattle.rating.specs.declared.sheets.Rated.{Rated}
 use Rattle.rating.specs.declared.sheets.Rated.the-variants.{Rating, Refused}
-use Rattle.rating.specs.Kinds.{bandsOf, kindOf, kindNumber}
 use Rattle.rating.specs.Sheets.{asked, sheetOf, ratedOf}
-use Rattle.rating.proofs.Numbered.{kind-of-number, kind-number-of}
 use Rattle.entry.specs.declared.entries.Entry.{Entry}
 use Rattle.register.specs.declared.registers.Register.{Register}
 use Rattle.register.specs.declared.steps.Billed.the-variants as billed

@@ -17,13 +17,13 @@ use Rattle.quantity.specs.Quantities.{priced}
 use Rattle.quantity.specs.declared.refusals.Refusal.the-variants.{NotRequest, PriceRange, OtherBands, RegisterFull, RegisterDamaged}
 use Rattle.laws.specs.Tests.{allTo, anyTo, bit}
 use Rattle.laws.proofs.Ranges.{all-same, any-same}
-use Rattle.rating.specs.declared.kinds.Kind.{Kind}
-use Rattle.rating.specs.declared.kinds.Named.{Named}
-use Rattle.rating.specs.declared.kinds.Named.the-variants.{Is, Unknown}
+use Rattle.kinds.specs.declared.kinds.Kind.{Kind}
+use Rattle.kinds.specs.declared.kinds.Named.{Named}
+use Rattle.kinds.specs.declared.kinds.Named.the-variants.{Is, Unknown}
+use Rattle.kinds.specs.Kinds.{bandsOf, kindOf}
 use Rattle.rating.specs.declared.sheets.Sheet.{Sheet}
 use Rattle.rating.specs.declared.sheets.Rated.{Rated}
 use Rattle.rating.specs.declared.sheets.Rated.the-variants as rating
-use Rattle.rating.specs.Kinds.{bandsOf, kindOf}
 use Rattle.rating.specs.Sheets.{ratedOf}
 use Rattle.rating.proofs.Theorems.{past-length}
 use Rattle.entry.specs.declared.entries.Entry.{Entry}

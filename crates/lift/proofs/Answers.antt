@@ -5,13 +5,15 @@ use mathlib.Core.Bool.{Bool, true, false}
 use mathlib.Core.List.{List}
 use Prim.Native.Nat.{ℕ, _-_, _≤_, _<_}
 use native.Mathlib.Nat.{le-of-lt}
+use native.Mathlib.Omega.{arith}
 use borrow.Author.Tests.{le-leb, lt-leb}
-use lib.Dec.{T, eqb}
+use lib.Dec.{T, eqb, leb}
 use lib.IntN.{ℤ, pos, negsuc}
 use lib.ListN.{length}
 use lib.Signed.{ltZ}
 use Rattle.laws.specs.Lists.{front}
 use Rattle.laws.proofs.Ints.{lt-yes, lt-no, le-true, le-false}
+use Rattle.laws.proofs.Tests.{clash}
 use Rattle.quantity.specs.Quantities.{bandOf}
 use Rattle.quantity.specs.declared.quantities.BandSet.{BandSet}
 use Rattle.quantity.specs.declared.quantities.Decibels.{Decibels}
@@ -20,21 +22,22 @@ use Rattle.quantity.specs.declared.refusals.Refusal.the-variants.{BandCount, Ba
 use Rattle.curve.specs.Bands.{accepted}
 use Rattle.curve.specs.Levels.{at, levelBy, Entries, Countable}
 use Rattle.curve.proofs.Searched.{count-most}
-use Rattle.rating.specs.declared.kinds.Kind.{Kind}
-use Rattle.rating.specs.declared.kinds.Numbers.{Numbers}
+use Rattle.kinds.specs.declared.kinds.Kind.{Kind}
+use Rattle.kinds.specs.declared.kinds.Kind.the-variants.{A3, A1, I3, I1}
+use Rattle.kinds.specs.declared.kinds.Numbers.{Numbers}
+use Rattle.kinds.specs.Kinds.{airborne, bandsOf, limitOf}
+use Rattle.kinds.specs.Numbers.{entriesOf, numbersOf, ratingAt}
+use Rattle.kinds.proofs.Facts.{count-of, entries-fit}
 use Rattle.rating.specs.declared.sheets.SingleNumber.the-variants.{Rating as Number, Refused as Denied}
 use Rattle.rating.specs.declared.sheets.Rated.{Rated}
 use Rattle.rating.specs.declared.sheets.Rated.the-variants.{Rating, Refused as Unrated}
-use Rattle.rating.specs.Kinds.{airborne, bandsOf, limitOf}
 use Rattle.rating.specs.Curve.{ratingOf}
-use Rattle.rating.specs.Numbers.{entriesOf, numbersOf, ratingAt}
 use Rattle.rating.specs.Sheets.{asked, sheetOf, ratedOf, singleOf}
-use Rattle.rating.proofs.Facts.{count-of, entries-fit}
 use Rattle.sets.specs.Gains.{byGains, Bounded, Gained}
 use Rattle.lift.specs.declared.lists.Lifted.{Lifted}
 use Rattle.lift.specs.declared.lists.Lifted.the-variants.{Count, Refused}
 use Rattle.lift.specs.Reach.{betterBy, liftList}
-use Rattle.lift.specs.Calls.{inTargets, placesOf, countOf, answerBy, answerOf, RatedIs, LiftIs}
+use Rattle.lift.specs.Calls.{inTargets, placesOf, tested, countOf, answerBy, answerOf, RatedIs, LiftIs}
 use Rattle.lift.proofs.Listing.{can-count, position-small, above-limit, need-small, gains-small, list-is, list-room}
 
 -- ---- the range of targets
@@ -173,3 +176,27 @@ module _ (k : Kind) (s : BandSet) (acc : accepted s (bandsOf k) ≡ true) (t : �
         list = l;
         fits = subst (λ (v : List ℕ). length v ≤ room) (sym l) (list-room k (bandOf s) t room h);
       })
+
+-- ---- a count is small
+places-small : (k : Kind) → placesOf k ≤ 696
+places-small A3 = omega arith
+places-small A1 = omega arith
+places-small I3 = omega arith
+places-small I1 = omega arith
+
+pub count-small : (k : Kind) (s : BandSet) (t : ℤ) (room n : ℕ) → answerOf k s t room ≡ Count n → n ≤ 696
+unfolding answerOf countOf
+count-small k s t room n e = by (ratedOf k s) e
+  where
+    tests : (a b x : Bool) → tested a (tested b (tested x (Count (length (liftList k (bandOf s) t))) (Refused NoRoom)) (Refused NotBetter)) (Refused TargetRange) ≡ Count n
+        → n ≤ 696
+    tests false b x h = clash cc
+    tests true false x h = clash cc
+    tests true true false h = clash cc
+    tests true true true h =
+        let q : n ≡ length (liftList k (bandOf s) t) = cc in
+        omega (arith, list-room k (bandOf s) t 696 (places-small k))
+
+    by : (r : Rated) → answerBy r k s t room ≡ Count n → n ≤ 696
+    by (Unrated q) h = clash cc
+    by (Rating sheet) h = tests (inTargets t) (betterBy (airborne k) t (sheet .rating .0)) (leb (placesOf k) room) h

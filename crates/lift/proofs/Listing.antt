@@ -25,13 +25,14 @@ use Rattle.curve.specs.Levels.{at, levelBy, levelAt, startAt, Countable}
 use Rattle.curve.proofs.Walks.{total-most}
 use Rattle.curve.proofs.Counted.{counted, level-parts}
 use Rattle.curve.proofs.Searched.{band-in, count-most, found}
-use Rattle.rating.specs.declared.kinds.Kind.{Kind}
-use Rattle.rating.specs.declared.kinds.Kind.the-variants.{A3, A1, I3, I1}
-use Rattle.rating.specs.Kinds.{airborne, bandsOf, limitOf, referenceOf}
+use Rattle.kinds.specs.declared.kinds.Kind.{Kind}
+use Rattle.kinds.specs.declared.kinds.Kind.the-variants.{A3, A1, I3, I1}
+use Rattle.kinds.specs.Kinds.{airborne, bandsOf, limitOf, referenceOf}
+use Rattle.kinds.specs.Numbers.{entryBy, entriesOf, startAdd, ratingAt}
+use Rattle.kinds.proofs.Facts.{count-of, entries-fit}
 use Rattle.rating.specs.Curve.{deficitBy, deficit, total, within, ratingOf}
-use Rattle.rating.specs.Numbers.{entryBy, entriesOf, startAdd, ratingAt, ratingBy}
+use Rattle.rating.specs.Found.{ratingBy}
 use Rattle.rating.proofs.Bridge.{positionBy, EntryOf, entry-parts, deficit-level}
-use Rattle.rating.proofs.Facts.{count-of, entries-fit}
 use Rattle.rating.proofs.Meaning.{total-is, rating-is}
 use Rattle.sets.specs.Masks.{isMask, smaller, choose, masksInOrder}
 use Rattle.sets.specs.Highest.{highest}

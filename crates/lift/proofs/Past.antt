@@ -12,10 +12,10 @@ use Rattle.quantity.specs.declared.quantities.BandSet.{BandSet}
 use Rattle.quantity.specs.declared.refusals.Refusal.the-variants.{BandCount, BandRange, NotBetter, TargetRange, NoRoom}
 use Rattle.curve.specs.Bands.{accepted}
 use Rattle.laws.specs.Tests.{allTo, bit}
-use Rattle.rating.specs.declared.kinds.Kind.{Kind}
+use Rattle.kinds.specs.declared.kinds.Kind.{Kind}
+use Rattle.kinds.specs.Kinds.{airborne, bandsOf}
 use Rattle.rating.specs.declared.sheets.Rated.{Rated}
 use Rattle.rating.specs.declared.sheets.Rated.the-variants.{Rating, Refused as Unrated}
-use Rattle.rating.specs.Kinds.{airborne, bandsOf}
 use Rattle.rating.specs.Curve.{ratingOf}
 use Rattle.rating.specs.Sheets.{sheetOf, ratedOf, asked}
 use Rattle.rating.proofs.Theorems.{accepted-same, rating-same, Stated, past-by}

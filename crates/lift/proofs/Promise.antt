@@ -14,10 +14,10 @@ use Rattle.quantity.specs.Quantities.{bandOf}
 use Rattle.quantity.specs.declared.quantities.BandSet.{BandSet}
 use Rattle.quantity.specs.declared.refusals.Refusal.the-variants.{NotBetter, TargetRange, NoRoom}
 use Rattle.laws.specs.Tests.{allTo}
-use Rattle.rating.specs.declared.kinds.Kind.{Kind}
+use Rattle.kinds.specs.declared.kinds.Kind.{Kind}
+use Rattle.kinds.specs.Kinds.{airborne, bandsOf}
 use Rattle.rating.specs.declared.sheets.Rated.{Rated}
 use Rattle.rating.specs.declared.sheets.Rated.the-variants.{Rating, Refused as Unrated}
-use Rattle.rating.specs.Kinds.{airborne, bandsOf}
 use Rattle.rating.specs.Sheets.{ratedOf}
 use Rattle.sets.specs.Masks.{isMask, smaller, before, masksInOrder}
 use Rattle.laws.proofs.Tests.{and-left, and-right, and-both}

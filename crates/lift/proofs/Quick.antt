@@ -14,10 +14,10 @@ use Rattle.quantity.specs.declared.quantities.Tenths.{Tenths}
 use Rattle.quantity.specs.declared.quantities.BandSet.{BandSet}
 use Rattle.curve.specs.Bands.{accepted}
 use Rattle.curve.specs.Levels.{at, levelBy, levelAt, totalAt}
-use Rattle.rating.specs.declared.kinds.Kind.{Kind}
-use Rattle.rating.specs.Kinds.{airborne, bandsOf, limitOf}
+use Rattle.kinds.specs.declared.kinds.Kind.{Kind}
+use Rattle.kinds.specs.Kinds.{airborne, bandsOf, limitOf}
+use Rattle.kinds.specs.Numbers.{entriesOf, ratingAt}
 use Rattle.rating.specs.Curve.{ratingOf}
-use Rattle.rating.specs.Numbers.{entriesOf, ratingAt}
 use Rattle.sets.specs.Gains.{byGains, gainAt, Gained}
 use Rattle.laws.proofs.Tests.{is-true, and-left, and-right}
 use Rattle.lift.specs.Reach.{betterBy, liftList}

@@ -17,10 +17,10 @@ use Rattle.curve.specs.Bands.{accepted}
 use Rattle.laws.specs.Tests.{bit}
 use Rattle.laws.proofs.Ranges.{all-made}
 use Rattle.curve.proofs.Searched.{band-in, count-most}
-use Rattle.rating.specs.declared.kinds.Kind.{Kind}
-use Rattle.rating.specs.Kinds.{airborne, bandsOf, limitOf, referenceOf}
+use Rattle.kinds.specs.declared.kinds.Kind.{Kind}
+use Rattle.kinds.specs.Kinds.{airborne, bandsOf, limitOf, referenceOf}
+use Rattle.kinds.proofs.Facts.{count-of}
 use Rattle.rating.specs.Curve.{deficitBy, deficit, total, within, stricterBy, IsPosition, positionOf, takenOff, ratingOf}
-use Rattle.rating.proofs.Facts.{count-of}
 use Rattle.rating.proofs.Theorems.{position-best, total-same, rating-same}
 use Rattle.sets.specs.Highest.{highest}
 use Rattle.sets.specs.Gains.{targetAt}

@@ -7,8 +7,8 @@ use lib.Dec.{T}
 use lib.IntN.{ℤ}
 use lib.Signed.{leZ, ltZ}
 use Rattle.laws.specs.Tests.{allTo, bit}
-use Rattle.rating.specs.declared.kinds.Kind.{Kind}
-use Rattle.rating.specs.Kinds.{airborne, bandsOf}
+use Rattle.kinds.specs.declared.kinds.Kind.{Kind}
+use Rattle.kinds.specs.Kinds.{airborne, bandsOf}
 use Rattle.rating.specs.Curve.{ratingOf}
 use Rattle.sets.specs.Masks.{isMask, smaller, masksInOrder, filter}
 use Rattle.sets.specs.Highest.{highest}

@@ -11,8 +11,8 @@ use lib.IntN.{ℤ, pos, negsuc}
 use lib.ListN.{length, take, drop, length-append}
 use Rattle.quantity.specs.Keys.{KeyBytes}
 use Rattle.quantity.proofs.Shapes.{key-range}
-use Rattle.rating.specs.declared.kinds.Kind.{Kind}
-use Rattle.rating.specs.declared.kinds.Kind.the-variants.{A3, A1, I3, I1}
+use Rattle.kinds.specs.declared.kinds.Kind.{Kind}
+use Rattle.kinds.specs.declared.kinds.Kind.the-variants.{A3, A1, I3, I1}
 use Rattle.answer.specs.Texts.{others, lineText, decimal, decimalBy, kindText}
 use Rattle.request.specs.Texts.{figureText, levelText, bandText, Band, requestText}
 use Rattle.request.specs.Texts.Band.{missing, level}

@@ -11,7 +11,7 @@ use lib.Dec.{leb, eqb}
 use lib.ListN.{length, take, drop, length-drop, drop-of-length-le}
 use lib.Seq.{take-all, drop-drop}
 use Rattle.quantity.specs.declared.refusals.Refusal.the-variants.{NoRoom}
-use Rattle.rating.specs.declared.kinds.Kind.{Kind}
+use Rattle.kinds.specs.declared.kinds.Kind.{Kind}
 use Rattle.reply.specs.declared.requests.Reply.{Reply}
 use Rattle.line.specs.declared.lines.Wrote.the-variants as wrote
 use Rattle.request.specs.Texts.{Band}

@@ -22,7 +22,7 @@ use Rattle.curve.specs.Bands.{accepted}
 use Rattle.laws.specs.Tests.{bit}
 use Rattle.laws.proofs.Ranges.{all-made}
 use Rattle.curve.proofs.Searched.{band-in}
-use Rattle.rating.specs.declared.kinds.Kind.the-variants.{A1}
+use Rattle.kinds.specs.declared.kinds.Kind.the-variants.{A1}
 use Rattle.rating.specs.declared.sheets.Rated.the-variants.{Rating}
 use Rattle.rating.specs.Sheets.{sheetOf, ratedOf}
 use Rattle.rating.proofs.Rated.{in-order}

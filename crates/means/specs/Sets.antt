@@ -19,8 +19,8 @@ use Rattle.measurement.specs.declared.lists.Intake.{Intake}
 use Rattle.measurement.specs.Lists.{weightOf, allOf, refusedList}
 use Rattle.curve.specs.Bands.{accepted}
 use Rattle.laws.specs.Tests.{bit}
-use Rattle.rating.specs.declared.kinds.Kind.the-variants.{A3, A1}
-use Rattle.rating.specs.Kinds.{bandsOf}
+use Rattle.kinds.specs.declared.kinds.Kind.the-variants.{A3, A1}
+use Rattle.kinds.specs.Kinds.{bandsOf}
 use Rattle.means.specs.Means.{meanOf₃}
 
 -- bit j of the number is f j, for j below n

@@ -2,6 +2,8 @@
 use curve::levels::all_in_range;
 use energy::mean_of_three;
 use energy::scaled_powers;
+use kinds::A1Kind;
+use kinds::A3Kind;
 use measurement::Intake;
 use measurement::refused_list;
 use measurement::take_all;
@@ -12,8 +14,6 @@ use quantity::Refusal;
 use quantity::Tenths;
 use quantity::signed::above;
 use quantity::signed::less;
-use rating::A1Kind;
-use rating::A3Kind;
 ghost use mathlib.Core.Path.{_≡_};
 ghost use mathlib.Core.Bool.{true};
 ghost use Prim.Native.Nat.{ℕ, _+_, _*_, _≤_, _<_};

@@ -14,12 +14,12 @@ use Rattle.energy.specs.Corrections.{c, k, backgroundRule, timeRule}
 use Rattle.curve.specs.Bands.{accepted, limited}
 use Rattle.laws.specs.Tests.{allTo, anyTo}
 use Rattle.curve.specs.Levels.{levelBy, totalAt}
-use Rattle.rating.specs.declared.kinds.Kind.{Kind}
-use Rattle.rating.specs.declared.kinds.Kind.the-variants.{A3}
-use Rattle.rating.specs.Kinds.{referencesOf, referenceOf, spectraC, spectraCtr, C, Ctr}
+use Rattle.kinds.specs.declared.kinds.Kind.{Kind}
+use Rattle.kinds.specs.declared.kinds.Kind.the-variants.{A3}
+use Rattle.kinds.specs.Kinds.{referencesOf, referenceOf, spectraC, spectraCtr, C, Ctr}
+use Rattle.kinds.specs.Numbers.{entriesOf}
 use Rattle.rating.specs.Curve.{deficit, total, within, startOf, shifted, firstFrom, shiftsOf, positionOf, ratingOf}
 use Rattle.rating.specs.Terms.{leastTo, greatestTo, weighted, airborneTerm, impactTerm}
-use Rattle.rating.specs.Numbers.{entriesOf}
 use Rattle.rating.specs.Sheets.{sheetOf, ratedOf}
 use Rattle.sets.specs.Masks.{choose, masksInOrder, filter}
 use Rattle.lift.specs.Reach.{liftList}

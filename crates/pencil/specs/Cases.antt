@@ -9,8 +9,8 @@ use Rattle.quantity.specs.declared.refusals.Refusal.{Refusal}
 use Rattle.quantity.specs.declared.refusals.Refusal.the-variants.{BandCount}
 use Rattle.quantity.specs.declared.quantities.BandSet.{BandSet}
 use Rattle.energy.specs.Corrections.{c, k}
-use Rattle.rating.specs.declared.kinds.Kind.{Kind}
-use Rattle.rating.specs.declared.kinds.Kind.the-variants.{A3, A1, I3}
+use Rattle.kinds.specs.declared.kinds.Kind.{Kind}
+use Rattle.kinds.specs.declared.kinds.Kind.the-variants.{A3, A1, I3}
 use Rattle.rating.specs.declared.sheets.Term.{Term}
 use Rattle.rating.specs.declared.sheets.Term.the-variants.{Given, Absent}
 use Rattle.rating.specs.declared.sheets.Rated.the-variants.{Rating, Refused}

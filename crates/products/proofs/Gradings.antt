@@ -7,7 +7,7 @@ use Rattle.quantity.specs.declared.refusals.Refusal.{Refusal}
 use Rattle.quantity.specs.declared.refusals.Outcome.{Outcome}
 use Rattle.quantity.specs.declared.refusals.Outcome.the-variants as outcome
 use Rattle.measurement.specs.declared.lists.Intake.{Intake}
-use Rattle.rating.specs.declared.kinds.Kind.the-variants.{A3}
+use Rattle.kinds.specs.declared.kinds.Kind.the-variants.{A3}
 use Rattle.rating.specs.declared.sheets.Sheet.{Sheet}
 use Rattle.rating.specs.declared.sheets.Rated.{Rated}
 use Rattle.rating.specs.declared.sheets.Rated.the-variants as rated

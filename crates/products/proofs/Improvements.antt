@@ -18,7 +18,7 @@ use Rattle.quantity.specs.declared.refusals.Refusal.{Refusal}
 use Rattle.quantity.specs.declared.refusals.Refusal.the-variants.{BandCount, BandRange, DerivedRange}
 use Rattle.curve.specs.Bands.{accepted, limited}
 use Rattle.laws.proofs.Counted.{Up}
-use Rattle.rating.specs.declared.kinds.Kind.the-variants.{I3}
+use Rattle.kinds.specs.declared.kinds.Kind.the-variants.{I3}
 use Rattle.rating.specs.declared.sheets.Sheet.{Sheet}
 use Rattle.rating.specs.declared.sheets.Rated.the-variants as rated
 use Rattle.rating.specs.Sheets.{sheetOf, ratedOf}

@@ -7,7 +7,7 @@ use Rattle.quantity.specs.declared.refusals.Outcome.the-variants.{Accepted}
 use Rattle.measurement.specs.declared.lists.Readings.{Readings}
 use Rattle.measurement.specs.declared.lists.Intake.{Intake}
 use Rattle.measurement.specs.Lists.{allOf, refusalIn}
-use Rattle.rating.specs.declared.kinds.Kind.the-variants.{A3}
+use Rattle.kinds.specs.declared.kinds.Kind.the-variants.{A3}
 use Rattle.rating.specs.Sheets.{sheetOf}
 use Rattle.rating.proofs.Rated.{in-order}
 use Rattle.means.specs.Sets.{placed, specimensOf}

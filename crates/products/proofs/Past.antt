@@ -16,7 +16,7 @@ use Rattle.quantity.specs.declared.refusals.Refusal.the-variants.{BandCount, Ba
 use Rattle.measurement.specs.declared.lists.Intake.{Intake}
 use Rattle.measurement.proofs.Past.{Alike}
 use Rattle.laws.specs.Tests.{bit}
-use Rattle.rating.specs.declared.kinds.Kind.the-variants.{I3}
+use Rattle.kinds.specs.declared.kinds.Kind.the-variants.{I3}
 use Rattle.rating.specs.declared.sheets.Rated.{Rated}
 use Rattle.rating.specs.declared.sheets.Rated.the-variants as rated
 use Rattle.rating.specs.Sheets.{ratedOf}

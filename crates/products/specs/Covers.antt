@@ -13,11 +13,11 @@ use Rattle.quantity.specs.Answers.Answer.{refused, numbers}
 use Rattle.quantity.specs.declared.quantities.BandSet.{BandSet}
 use Rattle.quantity.specs.declared.refusals.Refusal.the-variants.{BandCount, BandRange, DerivedRange}
 use Rattle.curve.specs.Bands.{accepted, limited}
-use Rattle.rating.specs.declared.kinds.Kind.the-variants.{I3}
+use Rattle.kinds.specs.declared.kinds.Kind.the-variants.{I3}
+use Rattle.kinds.specs.Kinds.{bandsOf}
 use Rattle.rating.specs.declared.sheets.Sheet.{Sheet}
 use Rattle.rating.specs.declared.sheets.Rated.{Rated}
 use Rattle.rating.specs.declared.sheets.Rated.the-variants as rated
-use Rattle.rating.specs.Kinds.{bandsOf}
 use Rattle.rating.specs.Sheets.{ratedOf, decibels}
 use Rattle.products.specs.declared.covers.Cover.{Cover}
 use Rattle.products.specs.declared.covers.Cover.the-variants.{Improvement, Refused}

@@ -1,13 +1,13 @@
 // The weighted improvement of a floor cover.
 use curve::levels::all_in_range;
+use kinds::I3Kind;
+use kinds::Kind;
 use quantity::BandSet;
 use quantity::Decibels;
 use quantity::Refusal;
 use quantity::Tenths;
 use quantity::signed::above;
 use quantity::signed::less;
-use rating::I3Kind;
-use rating::Kind;
 use rating::Rated;
 use rating::Sheet;
 use rating::rate;
@@ -17,8 +17,8 @@ ghost use Prim.Native.Nat.{_<_};
 ghost use lib.IntN.{_-ℤ_};
 ghost use Rattle.quantity.specs.Quantities.{inRange};
 ghost use Rattle.curve.specs.Bands.{accepted};
+ghost use Rattle.kinds.specs.Kinds.{bandsOf};
 ghost use Rattle.rating.specs.Bounds.{SmallSheet};
-ghost use Rattle.rating.specs.Kinds.{bandsOf};
 ghost use Rattle.products.specs.Covers.{floorAt, derivedSet, improvementOf, coverOf};
 
 // A cover's improvement rating, its term and its mark (at least), or a refusal.

@@ -1,10 +1,10 @@
 // The grade of a door or window.
+use kinds::Kind;
 use means::specimens;
 use quantity::Decibels;
 use quantity::Outcome;
 use quantity::Reading;
 use quantity::Refusal;
-use rating::Kind;
 use rating::Rated;
 use rating::Sheet;
 use rating::Term;

@@ -13,8 +13,9 @@ use Rattle.laws.proofs.Ints.{plus, minus, opposite, apart, times-P, times-N, eq
 use Rattle.laws.proofs.Floor.{floor-unique}
 use Rattle.curve.specs.Levels.{bottom}
 use Rattle.curve.proofs.Counted.{PartsOf}
+use Rattle.kinds.proofs.Facts.{Tuned}
+use Rattle.kinds.specs.Numbers.{entryBy}
 use Rattle.rating.specs.Curve.{deficitBy, startBy, shiftedBy, firstFrom}
-use Rattle.rating.specs.Numbers.{entryBy}
 
 -- decibels in tenths
 abbrev ten : ℤ → ℤ
@@ -45,10 +46,6 @@ deficit-level false K x p entry level e l =
     omega (arith, minus (pos 168) (pos p), times-P 10 Y, times-N 10 Y, times-P 10 K, times-N 10 K, minus x (ten K), minus (x -ℤ ten K) (ten Y), apart (x -ℤ ten K -ℤ ten Y))
 
 -- ---- the start: E is the sum of the entries, add what the kind adds, m ten for each band
-abbrev pub Tuned : Bool → ℕ → ℕ → ℕ → Type 0
-Tuned true E add m = add + E + 1 ≡ 30 * m
-Tuned false E add m = add + E + 1 ≡ 174 * m
-
 abbrev pub SumOf : Bool → ℤ → ℕ → ℕ → Type 0
 SumOf true x E level = level + N x ≡ E + P x
 SumOf false x E level = level + P x ≡ E + N x

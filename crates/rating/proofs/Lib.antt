@@ -1,7 +1,5 @@
 -- Laws of the rating.
-pub mod Numbered
 pub mod Bridge
-pub mod Facts
 pub mod Meaning
 pub mod Weighing
 pub mod Sheeted

@@ -20,13 +20,14 @@ use Rattle.curve.specs.Bands.{accepted}
 use Rattle.curve.specs.Levels.{at, levelAt, startAt, totalAt, Settled}
 use Rattle.curve.proofs.Counted.{PartsOf, counted, level-parts}
 use Rattle.curve.proofs.Searched.{band-in, count-most, count-some, sum-small, start-small, over-past}
-use Rattle.rating.specs.declared.kinds.Kind.{Kind}
-use Rattle.rating.specs.declared.kinds.Kind.the-variants.{A3, A1, I3, I1}
-use Rattle.rating.specs.Kinds.{airborne, bandsOf, limitOf, referenceOf}
+use Rattle.kinds.specs.declared.kinds.Kind.{Kind}
+use Rattle.kinds.specs.declared.kinds.Kind.the-variants.{A3, A1, I3, I1}
+use Rattle.kinds.specs.Kinds.{airborne, bandsOf, limitOf, referenceOf}
+use Rattle.kinds.specs.Numbers.{entryBy, entriesOf, startAdd, ratingAt}
+use Rattle.kinds.proofs.Facts.{count-of, entries-fit, add-small, tuned-of, limit-below}
 use Rattle.rating.specs.Curve.{deficitBy, deficit, total, within, stricterBy, IsPosition, startOf, shiftedBy, shifted, shiftsOf, positionOf, takenOff, ratingOf}
-use Rattle.rating.specs.Numbers.{entryBy, entriesOf, startAdd, ratingAt, ratingBy}
+use Rattle.rating.specs.Found.{ratingBy}
 use Rattle.rating.proofs.Bridge.{positionBy, EntryOf, entry-parts, deficit-level, SumOf, start-is, shifted-is, first-is}
-use Rattle.rating.proofs.Facts.{count-of, entries-fit, add-small, tuned-of, limit-below}
 
 -- the sum of levels and the sum of values, from band to band
 sum-of : (sign : Bool) (x : ℕ → ℤ) (e f : ℕ → ℕ) (n : ℕ) → ((i : ℕ) → i < n → PartsOf sign (x i) (e i) (f i))

@@ -12,15 +12,15 @@ use Rattle.quantity.specs.declared.refusals.Refusal.the-variants.{BandCount, Ba
 use Rattle.quantity.specs.declared.refusals.Outcome.{Outcome}
 use Rattle.quantity.specs.declared.refusals.Outcome.the-variants.{Accepted, Refused as Unfit}
 use Rattle.curve.specs.Bands.{accepted}
-use Rattle.rating.specs.declared.kinds.Kind.{Kind}
-use Rattle.rating.specs.declared.kinds.Numbers.{Numbers}
+use Rattle.kinds.specs.declared.kinds.Kind.{Kind}
+use Rattle.kinds.specs.declared.kinds.Numbers.{Numbers}
+use Rattle.kinds.specs.Kinds.{bandsOf}
+use Rattle.kinds.specs.Numbers.{numbersOf}
 use Rattle.rating.specs.declared.sheets.Sheet.{Sheet}
 use Rattle.rating.specs.declared.sheets.Rated.{Rated}
 use Rattle.rating.specs.declared.sheets.Rated.the-variants.{Rating, Refused}
 use Rattle.rating.specs.declared.sheets.SingleNumber.the-variants.{Rating as Number, Refused as Denied}
-use Rattle.rating.specs.Kinds.{bandsOf}
 use Rattle.rating.specs.Curve.{ratingOf}
-use Rattle.rating.specs.Numbers.{numbersOf}
 use Rattle.rating.specs.Sheets.{ratedOf, sheetOf, outcomeOf, singleOf, asked}
 
 -- the count of the numbers fetched is the kind's

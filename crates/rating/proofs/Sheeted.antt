@@ -19,17 +19,18 @@ use Rattle.curve.specs.Levels.{at, levelAt, Levels, Entries}
 use Rattle.curve.proofs.Counted.{PartsOf, counted, level-parts}
 use Rattle.laws.proofs.Counted.{Up}
 use Rattle.curve.proofs.Searched.{band-in, count-most, count-some, levels-most, settled-alike}
-use Rattle.rating.specs.declared.kinds.Kind.{Kind}
-use Rattle.rating.specs.declared.kinds.Numbers.{Numbers}
+use Rattle.kinds.specs.declared.kinds.Kind.{Kind}
+use Rattle.kinds.specs.declared.kinds.Numbers.{Numbers}
+use Rattle.kinds.specs.Kinds.{airborne, bandsOf, C, Ctr}
+use Rattle.kinds.specs.Numbers.{weightBy, firstOf, secondOf, startAdd, numbersOf, Sound, ratingAt}
+use Rattle.kinds.proofs.Facts.{count-of, first-fit, second-fit, sound-of}
 use Rattle.rating.specs.declared.sheets.Sheet.{Sheet}
 use Rattle.rating.specs.declared.sheets.Term.{Term}
 use Rattle.rating.specs.declared.sheets.Term.the-variants.{Given, Absent}
-use Rattle.rating.specs.Kinds.{airborne, bandsOf, C, Ctr}
 use Rattle.rating.specs.Curve.{ratingOf, shiftsOf}
 use Rattle.rating.specs.Terms.{airborneTerm}
 use Rattle.rating.specs.Sheets.{decibels, firstBy, secondBy, sheetOf}
-use Rattle.rating.specs.Numbers.{weightBy, firstOf, secondOf, startAdd, numbersOf, Sound, SoughtBy, Sought, ratingAt, ratingBy, termOf}
-use Rattle.rating.proofs.Facts.{count-of, first-fit, second-fit, sound-of}
+use Rattle.rating.specs.Found.{SoughtBy, Sought, ratingBy, termOf}
 use Rattle.rating.proofs.Meaning.{rating-is, shifts-is, start-below}
 use Rattle.rating.proofs.Weighing.{term-alike, airborne-term, impact-term}
 

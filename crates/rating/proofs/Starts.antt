@@ -11,10 +11,10 @@ use Rattle.laws.specs.Sums.{sumℤ}
 use Rattle.laws.proofs.Ints.{plus, minus, times-P, times-N, le-made, lt-made, le-read, lt-read}
 use Rattle.laws.proofs.Floor.{floor-is, floor-unique, ceiling-is, ceiling-unique}
 use Rattle.curve.proofs.Searched.{count-some}
-use Rattle.rating.specs.declared.kinds.Kind.{Kind}
-use Rattle.rating.specs.Kinds.{airborne, bandsOf}
+use Rattle.kinds.specs.declared.kinds.Kind.{Kind}
+use Rattle.kinds.specs.Kinds.{airborne, bandsOf}
+use Rattle.kinds.proofs.Facts.{count-of}
 use Rattle.rating.specs.Curve.{floorOf, ceilingOf, startBy, startOf}
-use Rattle.rating.proofs.Facts.{count-of}
 
 -- c is the least whole number that is not below z / m
 pub record RoundedUp (m : ℕ) (z c : ℤ) : Type 0 where

@@ -17,10 +17,10 @@ use Rattle.energy.specs.Energies.{F, u, Summed}
 use Rattle.energy.proofs.Scaled.{F-first, F-most}
 use Rattle.energy.proofs.Bounds.{H, u-by-H}
 use Rattle.curve.proofs.Searched.{count-most, count-some}
-use Rattle.rating.specs.declared.kinds.Kind.{Kind}
-use Rattle.rating.specs.Kinds.{bandsOf}
+use Rattle.kinds.specs.declared.kinds.Kind.{Kind}
+use Rattle.kinds.specs.Kinds.{bandsOf}
+use Rattle.kinds.proofs.Facts.{count-of}
 use Rattle.rating.specs.Terms.{leastTo, greatestTo, less, leastEnergies, greatestEnergies}
-use Rattle.rating.proofs.Facts.{count-of}
 
 -- the least of f 0 to f n, and the greatest, is one of them
 least-met : (f : ℕ → ℤ) (n : ℕ) → (i : ℕ) × (i ≤ n) × (f i ≡ leastTo f n)

@@ -25,15 +25,15 @@ use Rattle.laws.specs.Tests.{bit}
 use Rattle.curve.specs.Levels.{levelAt, startAt}
 use Rattle.laws.proofs.Ranges.{all-made, all-same, any-same}
 use Rattle.curve.proofs.Searched.{count-most, count-some, found}
-use Rattle.rating.specs.declared.kinds.Kind.{Kind}
+use Rattle.kinds.specs.declared.kinds.Kind.{Kind}
+use Rattle.kinds.specs.Kinds.{airborne, bandsOf, limitOf, referenceOf, C, Ctr}
+use Rattle.kinds.specs.Numbers.{entriesOf, startAdd}
+use Rattle.kinds.proofs.Facts.{count-of}
 use Rattle.rating.specs.declared.sheets.Rated.the-variants.{Rating, Refused}
 use Rattle.rating.specs.declared.sheets.Term.the-variants.{Given}
-use Rattle.rating.specs.Kinds.{airborne, bandsOf, limitOf, referenceOf, C, Ctr}
 use Rattle.rating.specs.Curve.{deficit, total, within, stricterBy, IsPosition, startBy, startOf, shiftedBy, shifted, firstFrom, shiftsOf, positionOf, takenOff, ratingOf}
 use Rattle.rating.specs.Terms.{leastTo, greatestTo, less, weighted, airborneTerm, impactTerm}
 use Rattle.rating.specs.Sheets.{firstBy, secondBy, sheetOf, ratedOf, asked}
-use Rattle.rating.specs.Numbers.{entriesOf, startAdd}
-use Rattle.rating.proofs.Facts.{count-of}
 use Rattle.rating.proofs.Meaning.{is-position}
 use Rattle.rating.proofs.Rated.{wrong-count}
 

@@ -16,11 +16,11 @@ use Rattle.curve.specs.Levels.{minTo, leastOf, energiesOf}
 use Rattle.curve.proofs.Searched.{least-alike, energies-alike}
 use Rattle.curve.proofs.Walks.{min-below}
 use Rattle.laws.proofs.Counted.{Up, Down, lesser-up, greater-down, above-up, above-down}
-use Rattle.rating.specs.declared.kinds.Kind.{Kind}
-use Rattle.rating.specs.Kinds.{bandsOf}
+use Rattle.kinds.specs.declared.kinds.Kind.{Kind}
+use Rattle.kinds.specs.Kinds.{bandsOf}
 use Rattle.rating.specs.Curve.{ratingOf}
 use Rattle.rating.specs.Terms.{leastTo, greatestTo, less, weighted, airborneTerm, impactTerm}
-use Rattle.rating.specs.Numbers.{ratingBy, termBy, termOf}
+use Rattle.rating.specs.Found.{ratingBy, termBy, termOf}
 
 pub u-small : (S : ℕ) → u S < 256
 unfolding u

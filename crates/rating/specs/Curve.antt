@@ -7,9 +7,9 @@ use lib.IntN.{ℤ, pos, negℤ, _+ℤ_, _-ℤ_, _*ℤ_}
 use lib.Signed.{shrZ, _≤ℤ_}
 use Rattle.laws.specs.Parts.{P}
 use Rattle.laws.specs.Sums.{sumTo, sumℤ}
-use Rattle.rating.specs.declared.kinds.Kind.{Kind}
-use Rattle.rating.specs.declared.kinds.Kind.the-variants.{A3, A1, I3, I1}
-use Rattle.rating.specs.Kinds.{airborne, bandsOf, limitOf, referenceOf}
+use Rattle.kinds.specs.declared.kinds.Kind.{Kind}
+use Rattle.kinds.specs.declared.kinds.Kind.the-variants.{A3, A1, I3, I1}
+use Rattle.kinds.specs.Kinds.{airborne, bandsOf, limitOf, referenceOf}
 
 -- "Airborne at curve position X: band deficit is max(0, 10X + 10K - x)."  "Impact: deficit max(0, x - 10K - 10Y)"
 abbrev pub deficitBy : Bool → ℤ → ℤ → ℤ → ℕ

@@ -15,7 +15,8 @@ use Rattle.quantity.specs.declared.refusals.Refusal.the-variants.{BandCount, Ba
 use Rattle.quantity.specs.declared.refusals.Outcome.{Outcome}
 use Rattle.quantity.specs.declared.refusals.Outcome.the-variants.{Accepted, Refused as Unfit}
 use Rattle.curve.specs.Bands.{accepted, limited}
-use Rattle.rating.specs.declared.kinds.Kind.{Kind}
+use Rattle.kinds.specs.declared.kinds.Kind.{Kind}
+use Rattle.kinds.specs.Kinds.{airborne, bandsOf, C, Ctr}
 use Rattle.rating.specs.declared.sheets.Term.{Term}
 use Rattle.rating.specs.declared.sheets.Term.the-variants.{Given, Absent}
 use Rattle.rating.specs.declared.sheets.Sheet.{Sheet}
@@ -23,7 +24,6 @@ use Rattle.rating.specs.declared.sheets.Rated.{Rated}
 use Rattle.rating.specs.declared.sheets.Rated.the-variants.{Rating, Refused}
 use Rattle.rating.specs.declared.sheets.SingleNumber.{SingleNumber}
 use Rattle.rating.specs.declared.sheets.SingleNumber.the-variants.{Rating as Number, Refused as Denied}
-use Rattle.rating.specs.Kinds.{airborne, bandsOf, C, Ctr}
 use Rattle.rating.specs.Curve.{ratingOf, shiftsOf}
 use Rattle.rating.specs.Terms.{airborneTerm, impactTerm}
 

@@ -4,8 +4,8 @@ use lib.IntN.{ℤ, pos, _+ℤ_, _-ℤ_, _*ℤ_}
 use Rattle.laws.specs.Parts.{P, lesser, greater}
 use Rattle.laws.specs.Sums.{sumTo}
 use Rattle.energy.specs.Energies.{F, u}
-use Rattle.rating.specs.declared.kinds.Kind.{Kind}
-use Rattle.rating.specs.Kinds.{bandsOf}
+use Rattle.kinds.specs.declared.kinds.Kind.{Kind}
+use Rattle.kinds.specs.Kinds.{bandsOf}
 use Rattle.rating.specs.Curve.{ratingOf}
 
 -- the least, and the greatest, of f 0 to f n

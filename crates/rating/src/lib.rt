@@ -2,20 +2,8 @@
 //
 // A kind is a type that owns its numbers; one search serves all four. The search counts its own shifts, and the sheet is
 // proved equal to the definitions in `specs/`, for every kind, every length and every value.
-mod kinds;
 mod sheets;
 
-pub use kinds::A1Kind;
-pub use kinds::A3Kind;
-pub use kinds::I1Kind;
-pub use kinds::I3Kind;
-pub use kinds::Kind;
-pub use kinds::Named;
-pub use kinds::Numbers;
-pub use kinds::bands_of;
-pub use kinds::kind_number;
-pub use kinds::kind_of;
-pub use kinds::numbers_of;
 pub use sheets::Rated;
 pub use sheets::Sheet;
 pub use sheets::SingleNumber;

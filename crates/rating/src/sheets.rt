@@ -1,9 +1,4 @@
 // The sheet of a band set: one path for all kinds, by the numbers of the kind.
-use crate::kinds::Kind;
-use crate::kinds::bands_of;
-use crate::kinds::marked;
-use crate::kinds::numbers_of;
-use crate::kinds::start_of;
 use curve::Position;
 use curve::levels::Accepted;
 use curve::levels::all_in_range;
@@ -16,6 +11,11 @@ use energy::level;
 use energy::level_starts;
 use energy::level_thresholds;
 use energy::scaled_powers;
+use kinds::Kind;
+use kinds::bands_of;
+use kinds::marked;
+use kinds::numbers_of;
+use kinds::start_of;
 use quantity::BandSet;
 use quantity::Decibels;
 use quantity::Outcome;
@@ -29,8 +29,8 @@ ghost use Rattle.energy.specs.Energies.{Tables};
 ghost use Rattle.quantity.specs.Quantities.{halfUp, bandOf};
 ghost use Rattle.curve.specs.Bands.{accepted};
 ghost use Rattle.curve.specs.Levels.{Count, at};
-ghost use Rattle.rating.specs.Kinds.{bandsOf};
-ghost use Rattle.rating.specs.Numbers.{SoughtBy, WeighedOf, ratingBy, termBy, termOf};
+ghost use Rattle.kinds.specs.Kinds.{bandsOf};
+ghost use Rattle.rating.specs.Found.{SoughtBy, WeighedOf, ratingBy, termBy, termOf};
 ghost use Rattle.rating.specs.Curve.{ratingOf};
 ghost use Rattle.rating.specs.Sheets.{sheetOf, ratedOf, outcomeOf, singleOf};
 

@@ -19,11 +19,11 @@ use Rattle.quantity.specs.declared.refusals.Outcome.the-variants as outcome
 use Rattle.quantity.specs.Refusals.{orElse}
 use Rattle.curve.specs.Bands.{accepted}
 use Rattle.laws.proofs.Ranges.{all-made}
-use Rattle.rating.specs.declared.kinds.Kind.{Kind}
-use Rattle.rating.specs.declared.kinds.Kind.the-variants.{A3, A1, I3, I1}
+use Rattle.kinds.specs.declared.kinds.Kind.{Kind}
+use Rattle.kinds.specs.declared.kinds.Kind.the-variants.{A3, A1, I3, I1}
+use Rattle.kinds.specs.Kinds.{bandsOf}
 use Rattle.rating.specs.declared.sheets.Rated.{Rated}
 use Rattle.rating.specs.declared.sheets.Rated.the-variants.{Refused}
-use Rattle.rating.specs.Kinds.{bandsOf}
 use Rattle.rating.specs.Sheets.{ratedOf}
 use Rattle.request.specs.declared.bands.Gathered.{Gathered}
 use Rattle.request.specs.declared.heads.Named.{Named}

@@ -9,12 +9,12 @@ use Rattle.quantity.specs.declared.quantities.BandSet.{BandSet}
 use Rattle.quantity.specs.declared.refusals.Refusal.the-variants.{BandCount, NotRequest}
 use Rattle.quantity.specs.declared.refusals.Outcome.{Outcome}
 use Rattle.quantity.specs.declared.refusals.Outcome.the-variants as outcome
-use Rattle.rating.specs.declared.kinds.Kind.{Kind}
-use Rattle.rating.specs.declared.kinds.Kind.the-variants.{A3}
+use Rattle.kinds.specs.declared.kinds.Kind.{Kind}
+use Rattle.kinds.specs.declared.kinds.Kind.the-variants.{A3}
+use Rattle.kinds.specs.Kinds.{bandsOf}
 use Rattle.rating.specs.declared.sheets.Rated.{Rated}
-use Rattle.rating.specs.declared.sheets.Rated.the-variants.{Refused}
 use Rattle.curve.specs.Bands.{accepted}
-use Rattle.rating.specs.Kinds.{bandsOf}
+use Rattle.rating.specs.declared.sheets.Rated.the-variants.{Refused}
 use Rattle.rating.specs.Sheets.{ratedOf}
 use Rattle.answer.specs.Texts.{ratedText, noRequestText}
 use Rattle.request.specs.declared.bands.Gathered.{Gathered}

@@ -1,11 +1,11 @@
 // Requests: kind, key and bands, and what they are answered.
+use kinds::Kind;
+use kinds::bands_of;
 use quantity::BandSet;
 use quantity::Outcome;
 use quantity::Refusal;
 use quantity::byte;
-use rating::Kind;
 use rating::Rated;
-use rating::bands_of;
 use rating::sheet_of;
 use request::Gathered;
 use request::Named;

@@ -26,7 +26,7 @@ use Rattle.request.specs.Reading.{Found, signedBy, levelAt, bandAt, band
 use Rattle.request.specs.Reading.Bands.{broken, ended}
 use Rattle.request.specs.declared.heads.Named.{Named}
 use Rattle.request.specs.declared.heads.Named.the-variants as named
-use Rattle.rating.specs.declared.kinds.Kind.the-variants.{A3, A1, I3, I1}
+use Rattle.kinds.specs.declared.kinds.Kind.the-variants.{A3, A1, I3, I1}
 use Rattle.request.specs.Reading.Found.{found}
 use Rattle.request.specs.Gathering.{Small, Short, fieldOf}
 use Rattle.request.proofs.Leaves.{inside, Digit, digit-yes, digit-beside, digit-read}

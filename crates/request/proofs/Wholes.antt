@@ -11,8 +11,8 @@ use lib.ListN.{length, take, drop, length-append, length-drop}
 use lib.Seq.{drop-cons, length-take-le, take-all}
 use Rattle.quantity.specs.Keys.{byteAt, keyByte, KeyBytes, KeyOk}
 use Rattle.quantity.proofs.Shapes.{key-range}
-use Rattle.rating.specs.declared.kinds.Kind.{Kind}
-use Rattle.rating.specs.declared.kinds.Kind.the-variants.{A3, A1, I3, I1}
+use Rattle.kinds.specs.declared.kinds.Kind.{Kind}
+use Rattle.kinds.specs.declared.kinds.Kind.the-variants.{A3, A1, I3, I1}
 use Rattle.request.specs.declared.heads.Named.{Named}
 use Rattle.request.specs.declared.heads.Named.the-variants as named
 use Rattle.answer.specs.Texts.{others, lineText, kindText}

@@ -4,7 +4,7 @@ use mathlib.Core.List.{List, [], _∷_, _++_, map}
 use Prim.Native.Nat.{ℕ, suc, _/_, _%_, _≤_}
 use lib.IntN.{ℤ, pos, negsuc}
 use Rattle.laws.specs.Parts.{P, N}
-use Rattle.rating.specs.declared.kinds.Kind.{Kind}
+use Rattle.kinds.specs.declared.kinds.Kind.{Kind}
 use Rattle.answer.specs.Texts.{hyphen, point, digit, lineText, decimal, kindText}
 
 -- a band: missing, or whether it is a limit value and its tenths

@@ -1,7 +1,7 @@
 // The head of a request: its kind and its key.
+use kinds::Kind;
 use quantity::byte;
 use quantity::is_key;
-use rating::Kind;
 ghost use mathlib.Core.Path.{_≡_};
 ghost use Prim.Native.Nat.{_≤_};
 ghost use lib.ListN.{length, drop};

@@ -10,9 +10,9 @@ use borrow.Author.Tests.{eqb-true, eqb-false}
 use lib.Dec.{T, leb, ltb, leb→le, ltb→lt}
 use lib.ListN.{length}
 use Rattle.laws.specs.Tests.{bit}
-use Rattle.rating.specs.declared.kinds.Kind.{Kind}
-use Rattle.rating.specs.declared.kinds.Kind.the-variants.{A3, A1, I3, I1}
-use Rattle.rating.specs.Kinds.{bandsOf}
+use Rattle.kinds.specs.declared.kinds.Kind.{Kind}
+use Rattle.kinds.specs.declared.kinds.Kind.the-variants.{A3, A1, I3, I1}
+use Rattle.kinds.specs.Kinds.{bandsOf}
 use Rattle.sets.specs.Masks.{bandsFrom, bandsIn, size, isMask, earlier, before, choose, masksInOrder, filter}
 use Rattle.laws.proofs.Tests.{and-left, and-right}
 use Rattle.sets.proofs.Filters.{allIn, risingBy, filter-made}

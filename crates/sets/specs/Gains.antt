@@ -11,8 +11,8 @@ use Rattle.laws.specs.Sums.{sumTo}
 use Rattle.quantity.specs.declared.quantities.BandSet.{BandSet}
 use Rattle.laws.specs.Tests.{bit}
 use Rattle.curve.specs.Levels.{at, levelBy, levelAt, totalAt}
-use Rattle.rating.specs.declared.kinds.Kind.{Kind}
-use Rattle.rating.specs.Kinds.{airborne, referenceOf}
+use Rattle.kinds.specs.declared.kinds.Kind.{Kind}
+use Rattle.kinds.specs.Kinds.{airborne, referenceOf}
 use Rattle.rating.specs.Curve.{deficit, takenOff}
 use Rattle.sets.specs.Masks.{choose, masksInOrder, filter}
 use Rattle.sets.specs.Highest.{highest}

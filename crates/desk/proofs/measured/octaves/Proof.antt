@@ -3,8 +3,8 @@ use borrow.Author.Needs.{needs}
 use mathlib.Core.Path.{ap}
 use Rattle.measurement.specs.declared.lists.Intake.{Intake}
 use Rattle.measurement.specs.Lists.{intakeAnswer}
-use Rattle.rating.specs.declared.kinds.Kind.the-variants.{A1}
-use Rattle.rating.specs.Kinds.{bandsOf}
+use Rattle.kinds.specs.declared.kinds.Kind.the-variants.{A1}
+use Rattle.kinds.specs.Kinds.{bandsOf}
 use Rattle.desk.proofs.measured.octaves.Statement.{statement}
 use Rattle.desk.proofs.measured.octaves.Tie as tie
 

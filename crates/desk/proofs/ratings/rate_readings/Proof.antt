@@ -1,9 +1,9 @@
 -- `desk::ratings::rate_readings` meets its contract: intake for the kind's count, then the rating. Assumes nothing.
 use borrow.Author.Needs.{needs}
 use mathlib.Core.Path.{ap}
-use Rattle.rating.specs.Sheets.{ratedAnswer}
+use Rattle.kinds.proofs.Facts.{count-of}
 use Rattle.curve.proofs.Searched.{count-most}
-use Rattle.rating.proofs.Facts.{count-of}
+use Rattle.rating.specs.Sheets.{ratedAnswer}
 use Rattle.desk.proofs.Joined.{readings-refused, readings-rated}
 use Rattle.desk.proofs.ratings.rate_readings.Statement.{statement}
 use Rattle.desk.proofs.ratings.rate_readings.Tie as tie

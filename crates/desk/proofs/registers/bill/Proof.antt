@@ -26,8 +26,8 @@ use Rattle.quantity.proofs.quantities.BandSet as B
 use Rattle.quantity.proofs.quantities.BandSet.Laws as B′
 use Rattle.quantity.proofs.quantities.Fen as F
 use Rattle.quantity.proofs.quantities.Fen.Laws as F′
-use Rattle.rating.proofs.kinds.Kind as K
-use Rattle.rating.proofs.kinds.Kind.Laws as K′
+use Rattle.kinds.proofs.kinds.Kind as K
+use Rattle.kinds.proofs.kinds.Kind.Laws as K′
 use Rattle.entry.specs.Entries.{Call, callOf}
 use Rattle.register.specs.Registers.{billedOf, afterOf, billedAnswer}
 use Rattle.register.proofs.steps.Billed as C

@@ -6,7 +6,8 @@ use lib.ListN.{length}
 use Prim.Native.Nat.{_≤_}
 use Rattle.quantity.proofs.Rim.{as-pos}
 use Rattle.desk.proofs.Answers.{lifted-one}
-use Rattle.desk_c.proofs.Lifting.{lift-alone, lift-counted, lift-refused, count-small}
+use Rattle.lift.proofs.Answers.{count-small}
+use Rattle.desk_c.proofs.Lifting.{lift-alone, lift-counted, lift-refused}
 use Rattle.lift.specs.Calls.{answerOf}
 use Rattle.desk_c.proofs.lifts.give_lift.Statement.{statement}
 use Rattle.desk_c.proofs.lifts.give_lift.Tie as tie

@@ -1,8 +1,8 @@
 -- `desk_c::ratings::imbrolt_rate` meets its contract: the kind of the number, then the rating. Assumes nothing.
 use borrow.Author.Needs.{needs}
 use mathlib.Core.Path.{sym, _∙_, ap}
+use Rattle.kinds.specs.Kinds.{kindOf}
 use Rattle.rating.specs.Sheets.{ratedOf, ratedAnswer}
-use Rattle.rating.specs.Kinds.{kindOf}
 use Rattle.door.specs.Lists.{setFrom}
 use Rattle.door.proofs.Gives.{given, refuses}
 use Rattle.desk_c.specs.Ratings.{rateAnswer}

@@ -5,7 +5,7 @@ use mathlib.Core.List.{List}
 use lib.ListN.{length}
 use Rattle.quantity.specs.declared.quantities.Reading.{Reading}
 use Rattle.desk.specs.Calls.{readingsRated}
-use Rattle.rating.specs.Kinds.{kindOf}
+use Rattle.kinds.specs.Kinds.{kindOf}
 use Rattle.door.specs.Lists.{readingsFrom}
 use Rattle.rating.specs.Sheets.{ratedAnswer}
 use Rattle.door.proofs.Gives.{given, refuses}

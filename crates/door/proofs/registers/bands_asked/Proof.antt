@@ -1,7 +1,7 @@
 -- `door::registers::bands_asked` meets its contract. Assumes nothing.
 use borrow.Author.Needs.{needs}
 use mathlib.Core.Path.{sym, ap}
-use Rattle.rating.specs.declared.kinds.Named.{Named}
+use Rattle.kinds.specs.declared.kinds.Named.{Named}
 use Rattle.door.specs.Registers.{bandsAsked}
 use Rattle.door.proofs.registers.bands_asked.Statement.{statement}
 use Rattle.door.proofs.registers.bands_asked.Tie as tie

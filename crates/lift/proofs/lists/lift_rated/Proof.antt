@@ -7,7 +7,7 @@ use borrow.Author.Needs.{needs}
 use borrow.Author.Tests.{not-true, not-false}
 use lib.IntN.{ℤ}
 use lib.ListN.{length}
-use Rattle.rating.specs.Kinds.{airborne}
+use Rattle.kinds.specs.Kinds.{airborne}
 use Rattle.lift.specs.Reach.{betterBy}
 use Rattle.lift.specs.Calls.{inTargets, placesOf}
 use Rattle.lift.proofs.Answers.{sign-is, out-of-targets, not-better, no-room, all-listed}

@@ -4,7 +4,7 @@ use mathlib.Core.Path.{_≡_, sym, _∙_, ap}
 use borrow.Author.Tests.{not-true, not-false}
 use mathlib.Core.Bool.{true}
 use Rattle.curve.specs.Bands.{accepted}
-use Rattle.rating.specs.declared.kinds.Kind.the-variants.{I3}
+use Rattle.kinds.specs.declared.kinds.Kind.the-variants.{I3}
 use Rattle.rating.specs.Sheets.{ratedOf}
 use Rattle.products.specs.Covers.{derivedSet}
 use Rattle.rating.proofs.Small.{RatedBy, rated-by}

@@ -1,7 +1,7 @@
 -- `products::grades::grade_of` meets its contract: the specimens, then the rating of their means. Assumes nothing.
 use borrow.Author.Needs.{needs}
 use mathlib.Core.Path.{_≡_, sym, _∙_}
-use Rattle.rating.specs.declared.kinds.Kind.the-variants.{A3}
+use Rattle.kinds.specs.declared.kinds.Kind.the-variants.{A3}
 use Rattle.rating.proofs.Small.{rated-by}
 use Rattle.products.proofs.Gradings.{specimen-refused, mean-refused, mean-graded}
 use Rattle.quantity.specs.declared.refusals.Outcome.the-variants.{Accepted}

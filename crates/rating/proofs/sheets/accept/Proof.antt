@@ -3,7 +3,7 @@ use borrow.Author.Needs.{needs}
 use mathlib.Core.Path.{sym, _∙_}
 use borrow.Author.Tests.{not-true, not-false}
 use Rattle.curve.proofs.Searched.{count-most}
-use Rattle.rating.proofs.Facts.{count-of}
+use Rattle.kinds.proofs.Facts.{count-of}
 use Rattle.rating.proofs.Rated.{other-count, out-of-range, all-fit}
 use Rattle.rating.proofs.sheets.accept.Statement.{statement}
 use Rattle.rating.proofs.sheets.accept.Tie as tie

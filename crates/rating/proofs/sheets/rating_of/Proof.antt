@@ -1,7 +1,7 @@
 -- `rating::sheets::rating_of` meets its contract: the position found by the levels of the set is the rating's. Assumes nothing.
 use borrow.Author.Needs.{needs}
 use Rattle.curve.proofs.Searched.{count-most}
-use Rattle.rating.specs.Numbers.{Sought}
+use Rattle.rating.specs.Found.{Sought}
 use Rattle.rating.proofs.Rated.{bands-are}
 use Rattle.rating.proofs.Sheeted.{Fetched, fetched, levels-low, sought-by, position-small, rating-made}
 use Rattle.rating.proofs.sheets.rating_of.Statement.{statement}

@@ -9,7 +9,7 @@ use Rattle.curve.specs.Bands.{accepted}
 use Rattle.curve.specs.Levels.{Count}
 use Rattle.curve.proofs.Searched.{count-most}
 use Rattle.rating.specs.declared.sheets.Term.{Term}
-use Rattle.rating.specs.Numbers.{Sought}
+use Rattle.rating.specs.Found.{Sought}
 use Rattle.rating.specs.Sheets.{sheetOf}
 use Rattle.rating.proofs.Rated.{bands-are}
 use Rattle.rating.proofs.Sheeted.{Fetched, fetched, levels-low, sought-by, term-by, position-small, SecondAt, given, absent, sheet-made}

@@ -6,9 +6,9 @@ use native.Mathlib.Omega.{arith}
 use Rattle.laws.proofs.Sums.{sum-bound}
 use Rattle.curve.specs.Levels.{at, startAt}
 use Rattle.curve.proofs.Searched.{count-most, start-small, settled-alike}
-use Rattle.rating.specs.Kinds.{bandsOf}
-use Rattle.rating.specs.Numbers.{startAdd}
-use Rattle.rating.proofs.Facts.{count-of, add-small}
+use Rattle.kinds.specs.Kinds.{bandsOf}
+use Rattle.kinds.specs.Numbers.{startAdd}
+use Rattle.kinds.proofs.Facts.{count-of, add-small}
 use Rattle.rating.proofs.sheets.sought.Statement.{statement}
 use Rattle.rating.proofs.sheets.sought.Tie as tie
 

@@ -3,7 +3,7 @@ use borrow.Author.Needs.{needs}
 use mathlib.Core.Path.{_≡_, sym, _∙_, ap}
 use mathlib.Core.Bool.{Bool}
 use Rattle.quantity.proofs.Rim.{back}
-use Rattle.rating.specs.Numbers.{termBy}
+use Rattle.rating.specs.Found.{termBy}
 use Rattle.rating.proofs.sheets.term_at.Statement.{statement}
 use Rattle.rating.proofs.sheets.term_at.Tie as tie
 

@@ -10,7 +10,7 @@ use Rattle.laws.proofs.Ints.{ints}
 use Rattle.quantity.specs.Quantities.{halfUp}
 use Rattle.curve.specs.Levels.{at, leastOf, energiesOf}
 use Rattle.curve.proofs.Searched.{count-some, least-below}
-use Rattle.rating.specs.Numbers.{termBy}
+use Rattle.rating.specs.Found.{termBy}
 use Rattle.rating.proofs.Weighing.{u-small, term-small}
 use Rattle.rating.proofs.sheets.term_of.Statement.{statement}
 use Rattle.rating.proofs.sheets.term_of.Tie as tie

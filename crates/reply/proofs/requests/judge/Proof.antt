@@ -1,8 +1,8 @@
 -- `reply::requests::judge` meets its contract: the count, the first refusal of a band, or the sheet. Assumes nothing.
 use borrow.Author.Needs.{needs}
 use mathlib.Core.Path.{_≡_, refl, _∙_}
+use Rattle.kinds.specs.Kinds.{bandsOf}
 use Rattle.rating.specs.declared.sheets.Rated.the-variants.{Rating}
-use Rattle.rating.specs.Kinds.{bandsOf}
 use Rattle.rating.proofs.Rated.{in-order}
 use Rattle.reply.proofs.Replies.{judge-count, judge-refused, judge-sheet}
 use Rattle.reply.proofs.requests.judge.Statement.{statement}

@@ -10,7 +10,7 @@ use lib.ListN.{length}
 use Rattle.answer.specs.Texts.{digit}
 use Rattle.request.specs.Reading.{kindAt}
 use Rattle.request.specs.declared.heads.Named.the-variants as named
-use Rattle.rating.specs.declared.kinds.Kind.the-variants.{A3, A1, I3, I1}
+use Rattle.kinds.specs.declared.kinds.Kind.the-variants.{A3, A1, I3, I1}
 use Rattle.request.proofs.Leaves.{inside-byte}
 use Rattle.request.proofs.Readers.{kind-A, kind-I, kind-none, thirds, octaves, neither}
 use Rattle.request.proofs.heads.kind_at.Statement.{statement}

@@ -1,0 +1,31 @@
+-- `kinds::kinds::A1Kind::numbers` meets its contract: each list is the definition's. Assumes nothing.
+use borrow.Author.Needs.{needs}
+use mathlib.Core.Bool.{true}
+use Rattle.kinds.specs.Numbers.{numbersOf}
+use Rattle.kinds.proofs.kinds.A1Kind.numbers.Statement.{statement}
+use Rattle.kinds.proofs.kinds.A1Kind.numbers.Tie as tie
+
+reference-requires : tie.Need-reference-requires
+reference-requires c κs = search needs
+
+spectrum-c-requires : tie.Need-spectrum-c-requires
+spectrum-c-requires c κs = search needs
+
+spectrum-ctr-requires : tie.Need-spectrum-ctr-requires
+spectrum-ctr-requires c κs = search needs
+
+returns : tie.Need-returns
+unfolding numbersOf
+returns c = λ i. record {
+  bands = 5;
+  limit = 100;
+  origin = record { 0 = 24 };
+  airborne = true;
+  entries = c .before .before .reference .ensures i;
+  first = c .before .spectrum-c .ensures i;
+  second = c .spectrum-ctr .ensures i;
+}
+
+pub numbers-spec : {M : Type 1} → statement M
+numbers-spec =
+    tie.close (tie.spec reference-requires spectrum-c-requires spectrum-ctr-requires returns)
