@@ -1,5 +1,4 @@
 // The calls, by the number that a case begins with, and their answers as text.
-use intake::Time;
 use libc::STDOUT_FILENO;
 use vectors::lists::length_of;
 use vectors::lists::list_of;
@@ -12,18 +11,7 @@ use vectors::places::NO_SET;
 use vectors::places::UNWRITTEN;
 use vectors::places::print_lent;
 use vectors::stated::agrees;
-
-// The intake of a time, which is no C function.
-fn take_time(x: f32, out: &mut [i32; 17]) -> u32 {
-    match intake::take_time(x) {
-        Time::Value(time) => {
-            let hundredths = time.0;
-            out[0] = hundredths as i32;
-            0
-        }
-        Time::Refused(refusal) => refusal.number(),
-    }
-}
+use vectors::times::take_time;
 
 // The lift list, in the first places of a lent list.
 fn lift(case: Case, tenths: &[i32], sets: &mut [u16], out: &mut [i32]) -> u32 {

@@ -5,3 +5,4 @@ pub mod lists;
 pub mod numbers;
 pub mod places;
 pub mod stated;
+pub mod times;

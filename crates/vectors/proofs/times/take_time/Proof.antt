@@ -1,11 +1,11 @@
--- `cases::answers::take_time` is safe: a time that is taken is at most 2000 hundredths. Assumes nothing.
+-- `vectors::times::take_time` is safe: a time that is taken is at most 2000 hundredths. Assumes nothing.
 use native.Mathlib.Omega.{arith}
 use mathlib.Core.Path.{sym, _∙_}
 use native.Mathlib.Omega.{arith}
 use borrow.Author.Needs.{needs}
 use Rattle.intake.proofs.Meaning.{time-range}
-use Rattle.cases.proofs.answers.take_time.Statement.{statement}
-use Rattle.cases.proofs.answers.take_time.Tie as tie
+use Rattle.vectors.proofs.times.take_time.Statement.{statement}
+use Rattle.vectors.proofs.times.take_time.Tie as tie
 
 take-time-requires : tie.Need-take-time-requires
 take-time-requires c κs = search needs
