@@ -159,13 +159,14 @@ pub fn sheet_of(
     let n = numbers_of(kind);
     let entries = n.entries;
     let by_curve = levels(set, n.bands, n.airborne, entries);
+    let spectrum = n.first;
+    let by_first = levels(set, n.bands, n.airborne, spectrum);
+    let limit = marked(kind, set.marks);
     let accepted = sought(kind, &by_curve, n.bands, n.limit);
     let p = accepted.at;
     let shifts = accepted.shifts;
     let origin = n.origin;
     let rating = rating_at(p, n.airborne, origin);
-    let spectrum = n.first;
-    let by_first = levels(set, n.bands, n.airborne, spectrum);
     let first = term_of(
         &by_first,
         n.bands,
@@ -176,7 +177,6 @@ pub fn sheet_of(
         thresholds,
         starts,
     );
-    let limit = marked(kind, set.marks);
     if n.airborne {
         let other = n.second;
         let by_second = levels(set, n.bands, n.airborne, other);

@@ -31,80 +31,84 @@ fit c e = (count-most (got c .sound .count), (got c .acc, e))
 levels-requires : tie.Need-levels-requires
 levels-requires c κs = fit (c .before) (got (c .before) .sound .entries)
 
-sought-requires : tie.Need-sought-requires
-sought-requires c κs =
-    let n = c .before .before .before in
-    (bands-are _ _ (n .numbers-of .ensures), levels-low _ _ _ _ (got n) (got n .sound .entries) (c .before .levels .ensures))
-
--- where the numbers were fetched, and what the search found of the set
-abbrev start : tie.After-sought → tie.After-numbers-of
-start c = c .before .before .before .before
-
-sought : (c : tie.After-sought) → let a = start c .before .args in Sought (a .kind) (a .set) (c .sought .result .at .0) (c .sought .result .shifts)
-sought c = sought-by _ _ _ _ _ _ (start c .numbers-of .ensures) (c .before .before .levels .ensures) (c .sought .ensures)
-
-small : (c : tie.After-sought) → c .sought .result .at .0 < 500
-small c = position-small (start c .before .args .kind) _ _ _ (start c .before .pre .1) (sought c)
-
-rating-at-requires : tie.Need-rating-at-requires
-rating-at-requires c κs = (small (c .before .before), got (start (c .before .before)) .sound .near)
-
--- what a term asks, but for its levels
-asked : (c : tie.After-sought) {E : Type 0} → E → let a = start c .before .args in
-    let n = start c .numbers-of .result in
-    Tables (a .powers .now) (a .thresholds .now) (a .starts .now)
-    × (Count (n .bands) × (E × ((n .origin .0 < 200) × (c .sought .result .at .0 < 500))))
-asked c e = let f = got (start c) in (start c .before .pre .0, (f .sound .count, (e, (f .sound .near, small c))))
-
--- where the position was found, seen from the first spectrum and from the second
-abbrev before-first : tie.After-spectrum → tie.After-sought
-before-first c = c .before .before .before .before
-
-abbrev found : tie.After-marked → tie.After-sought
-found c = before-first (c .before .before .before .before)
-
-abbrev before-second : tie.After-other → tie.After-sought
-before-second c = found (c .before .before)
-
 levels-requires-2 : tie.Need-levels-requires-2
-levels-requires-2 c κs = let n = start (before-first c) in fit n (got n .sound .first)
-
-term-of-requires : tie.Need-term-of-requires
-term-of-requires c κs =
-    let s = before-first (c .before .before) in
-    let g = got (start s) in
-    asked s (levels-low _ _ _ _ g (g .sound .first) (c .before .levels2 .ensures))
+levels-requires-2 c κs = let n = c .before .before .before in fit n (got n .sound .first)
 
 marked-requires : tie.Need-marked-requires
 marked-requires c κs = search needs
 
+-- where the levels by the reference curve were found, and where the numbers were fetched
+abbrev by-curve : tie.After-marked → tie.After-levels
+by-curve c = c .before .before .before
+
+abbrev start : tie.After-marked → tie.After-numbers-of
+start c = by-curve c .before .before
+
+sought-requires : tie.Need-sought-requires
+sought-requires c κs =
+    let m = c .before in
+    let g = got (start m) in
+    (bands-are _ _ (start m .numbers-of .ensures), levels-low _ _ _ _ g (g .sound .entries) (by-curve m .levels .ensures))
+
+-- what the search found of the set
+abbrev marked : tie.After-sought → tie.After-marked
+marked c = c .before .before
+
+sought : (c : tie.After-sought) → let a = start (marked c) .before .args in
+    Sought (a .kind) (a .set) (c .sought .result .at .0) (c .sought .result .shifts)
+sought c = sought-by _ _ _ _ _ _ (start (marked c) .numbers-of .ensures) (by-curve (marked c) .levels .ensures) (c .sought .ensures)
+
+small : (c : tie.After-sought) → c .sought .result .at .0 < 500
+small c = let s = start (marked c) .before in position-small (s .args .kind) _ _ _ (s .pre .1) (sought c)
+
+rating-at-requires : tie.Need-rating-at-requires
+rating-at-requires c κs = let s = c .before .before in (small s, got (start (marked s)) .sound .near)
+
+-- what a term asks, but for its levels
+asked : (c : tie.After-sought) {E : Type 0} → E → let a = start (marked c) .before .args in
+    let n = start (marked c) .numbers-of .result in
+    Tables (a .powers .now) (a .thresholds .now) (a .starts .now)
+    × (Count (n .bands) × (E × ((n .origin .0 < 200) × (c .sought .result .at .0 < 500))))
+asked c e = let n = start (marked c) in let f = got n in (n .before .pre .0, (f .sound .count, (e, (f .sound .near, small c))))
+
+-- where the position was found
+abbrev found : tie.After-term-of → tie.After-sought
+found c = c .before .before .before .before .before
+
+term-of-requires : tie.Need-term-of-requires
+term-of-requires c κs =
+    let s = c .before .before .before .before in
+    let g = got (start (marked s)) in
+    asked s (levels-low _ _ _ _ g (g .sound .first) (marked s .before .levels2 .ensures))
+
 levels-requires-3 : tie.Need-levels-requires-3
-levels-requires-3 c κs = let n = start (before-second c) in fit n (got n .sound .second)
+levels-requires-3 c κs = let n = start (marked (found (c .before .before))) in fit n (got n .sound .second)
 
 term-of-requires-2 : tie.Need-term-of-requires-2
 term-of-requires-2 c κs =
-    let s = before-second (c .before .before) in
-    let g = got (start s) in
-    asked s (levels-low _ _ _ _ g (g .sound .second) (c .before .levels3 .ensures))
+    let l = c .before in
+    let s = found (l .before .before .before) in
+    let g = got (start (marked s)) in
+    asked s (levels-low _ _ _ _ g (g .sound .second) (l .levels3 .ensures))
 
 -- the sheet is the defined one, once its second term is
-made : (c : tie.After-marked) (second : Term) → let s = found c in
-    let a = start s .before .args in
-    SecondAt (start s .numbers-of .result) (a .set) (s .sought .result .at .0) second
+made : (c : tie.After-term-of) (second : Term) → let s = found c in
+    let a = start (marked s) .before .args in
+    SecondAt (start (marked s) .numbers-of .result) (a .set) (s .sought .result .at .0) second
     → record {
-      rating = c .before .before .before .before .before .rating-at .result;
-      first = c .before .term-of .result;
+      rating = c .before .before .rating-at .result;
+      first = c .term-of .result;
       second = second;
       shifts = s .sought .result .shifts;
-      limit = c .marked .result;
+      limit = marked s .marked .result;
     } ≡ sheetOf (a .kind) (a .set)
 made c second e =
     let s = found c in
-    let f = c .before .before .before in
-    sheet-made _ _ (start s .before .pre .1) _ (start s .numbers-of .ensures) _ _ (sought s) (c .marked .ensures)
+    let m = marked s in
+    sheet-made _ _ (start m .before .pre .1) _ (start m .numbers-of .ensures) _ _ (sought s) (m .marked .ensures)
     (record {
-      rating = f .before .before .rating-at .ensures;
-      first = term-by _ _ _ _ _ _ (got (start s) .sound) (f .levels2 .ensures) (c .before .term-of .ensures);
+      rating = c .before .before .rating-at .ensures;
+      first = term-by _ _ _ _ _ _ (got (start m) .sound) (m .before .levels2 .ensures) (c .term-of .ensures);
       second = e;
     })
 
@@ -113,7 +117,8 @@ returns c =
     let l = c .before .before in
     let t = l .before .before in
     made (t .before) _
-    (given (c .term-of2 .result) (t .if1 .taken) (term-by _ _ _ _ _ _ (got (start (found (t .before))) .sound) (l .levels3 .ensures) (c .term-of2 .ensures)))
+    (given (c .term-of2 .result) (t .if1 .taken)
+    (term-by _ _ _ _ _ _ (got (start (marked (found (t .before)))) .sound) (l .levels3 .ensures) (c .term-of2 .ensures)))
 
 returns-2 : tie.Need-returns-2
 returns-2 c = made (c .before) _ (absent (c .if1 .left))
@@ -124,11 +129,11 @@ sheet-of-spec =
     (tie.spec
     numbers-of-requires
     levels-requires
+    levels-requires-2
+    marked-requires
     sought-requires
     rating-at-requires
-    levels-requires-2
     term-of-requires
-    marked-requires
     levels-requires-3
     term-of-requires-2
     returns
