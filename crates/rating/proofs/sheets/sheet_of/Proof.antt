@@ -31,8 +31,12 @@ fit c e = (count-most (got c .sound .count), (got c .acc, e))
 levels-requires : tie.Need-levels-requires
 levels-requires c κs = fit (c .before) (got (c .before) .sound .entries)
 
+-- the entries of a spectrum fit, whichever of the two it is
 levels-requires-2 : tie.Need-levels-requires-2
-levels-requires-2 c κs = let n = c .before .before .before in fit n (got n .sound .first)
+levels-requires-2 c κs =
+    let n = c .before .before .before in
+    let g = got n in
+    fit n (search (g .sound .first, g .sound .second))
 
 marked-requires : tie.Need-marked-requires
 marked-requires c κs = search needs
@@ -79,7 +83,7 @@ term-of-requires : tie.Need-term-of-requires
 term-of-requires c κs =
     let s = c .before .before .before .before in
     let g = got (start (marked s)) in
-    asked s (levels-low _ _ _ _ g (g .sound .first) (marked s .before .levels2 .ensures))
+    asked s (levels-low _ _ _ _ g (search (g .sound .first, g .sound .second)) (marked s .before .levels2 .ensures))
 
 levels-requires-3 : tie.Need-levels-requires-3
 levels-requires-3 c κs = let n = start (marked (found (c .before .before))) in fit n (got n .sound .second)
