@@ -1,14 +1,14 @@
 // The register of request keys, in the caller's memory, in the form of `desk`'s calls: the register is taken from there whole and
 // handed to a step by value, and what the step leaves of it is put back.
-use door::bill_given;
-use door::close_given;
-use door::owed_given;
 use register::Register;
+use till::bill_given;
+use till::close_given;
+use till::owed_given;
 ghost use mathlib.Core.Path.{_≡_};
 ghost use lib.ListN.{length};
 ghost use Rattle.register.specs.Registers.{opened};
 ghost use Rattle.door.specs.Answers.{returned, held};
-ghost use Rattle.door.specs.Registers.{callGiven, billAnswer, billLeft, owedGiven, closeLeft};
+ghost use Rattle.till.specs.Registers.{callGiven, billAnswer, billLeft, owedGiven, closeLeft};
 
 // A register without entries.
 #[no_mangle]

@@ -3,5 +3,3 @@ pub mod Doors
 pub mod Fronts
 pub mod Listing
 pub mod Gives
-pub mod Bills
-pub mod Meaning

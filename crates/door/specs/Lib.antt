@@ -3,4 +3,3 @@ pub mod Answers
 pub mod Sides
 pub mod Lists
 pub mod Given
-pub mod Registers

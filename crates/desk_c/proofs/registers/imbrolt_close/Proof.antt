@@ -25,12 +25,12 @@ use denote.Triple.Statement.{Contract, Triple}
 use denote.Triple.Table.{entered, cited}
 use Rattle.register.proofs.registers.Register as T
 use Rattle.register.proofs.registers.Register.Laws as T′
-use Rattle.door.proofs.registers.Changed as S
-use Rattle.door.proofs.registers.Changed.Laws as S′
-use Rattle.door.proofs.close_given as step
-use Rattle.door.proofs.close_given.Symbol as step-def
-use Rattle.door.proofs.close_given.Symbol.{name as #step}
-use Rattle.door.proofs.close_given.Met as step-thm
+use Rattle.till.proofs.registers.Changed as S
+use Rattle.till.proofs.registers.Changed.Laws as S′
+use Rattle.till.proofs.close_given as step
+use Rattle.till.proofs.close_given.Symbol as step-def
+use Rattle.till.proofs.close_given.Symbol.{name as #step}
+use Rattle.till.proofs.close_given.Met as step-thm
 use Rattle.desk.proofs.Whole.{Data, Params, vals, stands, fits, register-data, copied, behind, stores, stores-back, start-of, lent-on, struct-data, uint-data, mut-known, mut-slice-known, meets, opens-whole, closes-whole, passes, asks, first-of, second-of, frees, ends, hands}
 use Rattle.desk_c.proofs.registers.imbrolt_close.Key.{name as #f}
 use Rattle.desk_c.proofs.registers.imbrolt_close as f
@@ -80,4 +80,4 @@ imbrolt-close-spec 𝓤 H 𝓜 𝓖 𝓡 =
     entered 𝓤 H (tripleOf 𝓤 H (𝓖 .A) f.signature (f.spec 𝓤 H (𝓖 .A) (𝓜 .mem) (𝓡 .run)))
     (tables 𝓤 H 𝓜 𝓡 code.env .C) (tables 𝓤 H 𝓜 𝓡 code.env .Λ) #f code.function (code.unfolded 𝓤 H 𝓜 𝓡)
     (f-meets 𝓤 H (𝓖 .A) (givenOf 𝓤 H 𝓜 𝓖) (𝓜 .mem) (𝓡 .run) (tablesOf 𝓤 H 𝓜 (tables 𝓤 H 𝓜 𝓡 code.env))
-    (cited 𝓤 H (Asked 𝓤 H (𝓖 .A) (givenOf 𝓤 H 𝓜 𝓖) (𝓜 .mem) (𝓡 .run)) 𝓜 𝓡 code.env #step step-def.routine code.calls-door·close-given (step-thm.met 𝓤 H 𝓜 𝓖 𝓡)))
+    (cited 𝓤 H (Asked 𝓤 H (𝓖 .A) (givenOf 𝓤 H 𝓜 𝓖) (𝓜 .mem) (𝓡 .run)) 𝓜 𝓡 code.env #step step-def.routine code.calls-till·close-given (step-thm.met 𝓤 H 𝓜 𝓖 𝓡)))

@@ -24,10 +24,10 @@ use denote.Triple.Spec.{Meets, tripleOf}
 use denote.Triple.Statement.{Contract, Triple}
 use denote.Triple.Table.{entered, cited}
 use Rattle.register.proofs.registers.Register as T
-use Rattle.door.proofs.owed_given as step
-use Rattle.door.proofs.owed_given.Symbol as step-def
-use Rattle.door.proofs.owed_given.Symbol.{name as #step}
-use Rattle.door.proofs.owed_given.Met as step-thm
+use Rattle.till.proofs.owed_given as step
+use Rattle.till.proofs.owed_given.Symbol as step-def
+use Rattle.till.proofs.owed_given.Symbol.{name as #step}
+use Rattle.till.proofs.owed_given.Met as step-thm
 use Rattle.desk.proofs.Whole.{Params, vals, stands, fits, register-data, copied, behind, stores, start-of, lent-on, uint-data, shr-known, mut-slice-known, meets, looks-whole, shuts-whole, passes, asks, frees, ends, hands}
 use Rattle.desk_c.proofs.registers.imbrolt_owed.Key.{name as #f}
 use Rattle.desk_c.proofs.registers.imbrolt_owed as f
@@ -70,4 +70,4 @@ imbrolt-owed-spec 𝓤 H 𝓜 𝓖 𝓡 =
     entered 𝓤 H (tripleOf 𝓤 H (𝓖 .A) f.signature (f.spec 𝓤 H (𝓖 .A) (𝓜 .mem) (𝓡 .run)))
     (tables 𝓤 H 𝓜 𝓡 code.env .C) (tables 𝓤 H 𝓜 𝓡 code.env .Λ) #f code.function (code.unfolded 𝓤 H 𝓜 𝓡)
     (f-meets 𝓤 H (𝓖 .A) (givenOf 𝓤 H 𝓜 𝓖) (𝓜 .mem) (𝓡 .run) (tablesOf 𝓤 H 𝓜 (tables 𝓤 H 𝓜 𝓡 code.env))
-    (cited 𝓤 H (Asked 𝓤 H (𝓖 .A) (givenOf 𝓤 H 𝓜 𝓖) (𝓜 .mem) (𝓡 .run)) 𝓜 𝓡 code.env #step step-def.routine code.calls-door·owed-given (step-thm.met 𝓤 H 𝓜 𝓖 𝓡)))
+    (cited 𝓤 H (Asked 𝓤 H (𝓖 .A) (givenOf 𝓤 H 𝓜 𝓖) (𝓜 .mem) (𝓡 .run)) 𝓜 𝓡 code.env #step step-def.routine code.calls-till·owed-given (step-thm.met 𝓤 H 𝓜 𝓖 𝓡)))

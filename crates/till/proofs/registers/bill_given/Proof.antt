@@ -1,14 +1,14 @@
--- `door::registers::bill_given` meets its contract: the call's answer is given, and the register is left as there is room for it.
+-- `till::registers::bill_given` meets its contract: the call's answer is given, and the register is left as there is room for it.
 -- Assumes nothing.
 use borrow.Author.Needs.{needs}
 use mathlib.Core.Path.{_≡_, _∙_, ap}
 use native.Mathlib.Omega.{arith}
 use Rattle.entry.specs.Entries.{Call, callOf}
 use Rattle.register.specs.Registers.{billedOf, afterOf, billedAnswer}
-use Rattle.door.specs.Registers.{BillFits, callGiven, billAnswer, billLeft}
-use Rattle.door.proofs.Bills.{bill-fits, call-given, gave-short, gave-room}
-use Rattle.door.proofs.registers.bill_given.Statement.{statement}
-use Rattle.door.proofs.registers.bill_given.Tie as tie
+use Rattle.till.specs.Registers.{BillFits, callGiven, billAnswer, billLeft}
+use Rattle.till.proofs.Bills.{bill-fits, call-given, gave-short, gave-room}
+use Rattle.till.proofs.registers.bill_given.Statement.{statement}
+use Rattle.till.proofs.registers.bill_given.Tie as tie
 
 -- how it began
 abbrev start : tie.After-enter → tie.Start

@@ -27,10 +27,10 @@ use Rattle.register.specs.declared.totals.Owed.the-variants as owed
 use Rattle.entry.specs.Entries.{Call, callOf}
 use Rattle.register.specs.Registers.{billedOf, owedOf, billedAnswer, owedAnswer}
 use Rattle.register.proofs.Fits.{bill-by, owed-by}
 use Rattle.door.specs.Answers.{returned, held}
 use Rattle.door.specs.Lists.{setFrom}
-use Rattle.door.specs.Registers.{kindAsked, bandsAsked, callGiven, BillFits, OwedFits}
+use Rattle.till.specs.Registers.{kindAsked, bandsAsked, callGiven, BillFits, OwedFits}
 use Rattle.door.proofs.Gives.{Left, given}
 
 -- ---- what a call leaves
 -- its number, the register and the lent array, where its answer is a and its register t

@@ -1,12 +1,12 @@
--- `door::registers::give_billed` meets its contract: the numbers of the sheet, then what is charged. Assumes nothing.
+-- `till::registers::give_billed` meets its contract: the numbers of the sheet, then what is charged. Assumes nothing.
 use borrow.Author.Needs.{needs}
 use Prim.Native.Nat.{_≤_}
 use native.Mathlib.Omega.{arith}
 use Rattle.quantity.proofs.Rim.{as-pos}
 use Rattle.door.proofs.Gives.{given}
-use Rattle.door.proofs.Bills.{bill-fitting, bill-given}
-use Rattle.door.proofs.registers.give_billed.Statement.{statement}
-use Rattle.door.proofs.registers.give_billed.Tie as tie
+use Rattle.till.proofs.Bills.{bill-fitting, bill-given}
+use Rattle.till.proofs.registers.give_billed.Statement.{statement}
+use Rattle.till.proofs.registers.give_billed.Tie as tie
 
 -- what is charged: the sheet and the price fit their numbers
 fits : (c : tie.After-known-told) → let w = c .before .billed .given in (w .0 .0 .shifts ≤ 500) × (w .0 .1 .0 .0 ≤ 1000000)

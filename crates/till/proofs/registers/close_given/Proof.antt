@@ -1,13 +1,13 @@
--- `door::registers::close_given` meets its contract: the total is given, and the register is left as there is room for it.
+-- `till::registers::close_given` meets its contract: the total is given, and the register is left as there is room for it.
 -- Assumes nothing.
 use borrow.Author.Needs.{needs}
 use mathlib.Core.Path.{_≡_, ap}
 use native.Mathlib.Omega.{arith}
 use Rattle.register.specs.Registers.{owedAnswer}
-use Rattle.door.specs.Registers.{OwedFits, owedGiven, closeLeft}
-use Rattle.door.proofs.Bills.{owed-fits, gave-short, gave-room}
-use Rattle.door.proofs.registers.close_given.Statement.{statement}
-use Rattle.door.proofs.registers.close_given.Tie as tie
+use Rattle.till.specs.Registers.{OwedFits, owedGiven, closeLeft}
+use Rattle.till.proofs.Bills.{owed-fits, gave-short, gave-room}
+use Rattle.till.proofs.registers.close_given.Statement.{statement}
+use Rattle.till.proofs.registers.close_given.Tie as tie
 
 answer : (c : tie.After-close-for) → owedAnswer (c .close-for .result .owed) ≡ owedGiven (c .before .args .register) (c .before .args .customer)
 unfolding owedGiven

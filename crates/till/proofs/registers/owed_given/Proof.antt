@@ -1,12 +1,12 @@
--- `door::registers::owed_given` meets its contract. Assumes nothing.
+-- `till::registers::owed_given` meets its contract. Assumes nothing.
 use borrow.Author.Needs.{needs}
 use mathlib.Core.Path.{ap}
 use Rattle.register.specs.Registers.{owedAnswer}
-use Rattle.door.specs.Registers.{owedGiven}
+use Rattle.till.specs.Registers.{owedGiven}
 use Rattle.door.proofs.Gives.{given}
-use Rattle.door.proofs.Bills.{owed-fits}
-use Rattle.door.proofs.registers.owed_given.Statement.{statement}
-use Rattle.door.proofs.registers.owed_given.Tie as tie
+use Rattle.till.proofs.Bills.{owed-fits}
+use Rattle.till.proofs.registers.owed_given.Statement.{statement}
+use Rattle.till.proofs.registers.owed_given.Tie as tie
 
 owed-by-requires : tie.Need-owed-by-requires
 owed-by-requires c κs = search needs

@@ -1,7 +1,7 @@
 // The register's calls out of numbers and lent arrays, by value: `desk_c` takes the register from where it stands and puts it back.
-use crate::given::give;
-use crate::given::sheet_numbers;
-use crate::lists::set_from;
+use door::give;
+use door::set_from;
+use door::sheet_numbers;
 use kinds::Kind;
 use kinds::Named;
 use kinds::kind_of;
@@ -16,8 +16,8 @@ use register::owed_by;
 ghost use mathlib.Core.Path.{_≡_};
 ghost use lib.ListN.{length};
 ghost use Rattle.register.specs.Registers.{billedAnswer, owedAnswer};
 ghost use Rattle.door.specs.Answers.{returned, held};
-ghost use Rattle.door.specs.Registers.{kindAsked, bandsAsked, callGiven, billAnswer, billLeft, owedGiven, closeLeft, BillFits, OwedFits};
+ghost use Rattle.till.specs.Registers.{kindAsked, bandsAsked, callGiven, billAnswer, billLeft, owedGiven, closeLeft, BillFits, OwedFits};
 
 // A register as a call leaves it, and the number that the call returns.
 pub struct Changed {

@@ -18,8 +18,8 @@ use Rattle.register.specs.declared.registers.Register.{Register}
 use Rattle.entry.specs.Entries.{callOf}
 use Rattle.register.specs.Registers.{sound, Due, billedBy, billedOf, billedAnswer}
 use Rattle.register.proofs.Dues.{due-refused}
 use Rattle.door.specs.Lists.{setFrom}
-use Rattle.door.specs.Registers.{kindAsked, bandsAsked, callGiven, billAnswer}
+use Rattle.till.specs.Registers.{kindAsked, bandsAsked, callGiven, billAnswer}
 
 pub unknown-kind : (r : Register) (customer : ℕ) (key : List ℕ) (kind : ℕ) (values : List ℤ) (marks price : ℕ)
     → kindOf kind ≡ Unknown → sound r ≡ true → keyShape key ≡ true

@@ -1,10 +1,10 @@
--- `door::registers::bands_asked` meets its contract. Assumes nothing.
+-- `till::registers::bands_asked` meets its contract. Assumes nothing.
 use borrow.Author.Needs.{needs}
 use mathlib.Core.Path.{sym, ap}
 use Rattle.kinds.specs.declared.kinds.Named.{Named}
-use Rattle.door.specs.Registers.{bandsAsked}
-use Rattle.door.proofs.registers.bands_asked.Statement.{statement}
-use Rattle.door.proofs.registers.bands_asked.Tie as tie
+use Rattle.till.specs.Registers.{bandsAsked}
+use Rattle.till.proofs.registers.bands_asked.Statement.{statement}
+use Rattle.till.proofs.registers.bands_asked.Tie as tie
 
 enum-told : tie.Need-enum-told
 enum-told c = search needs

@@ -1,12 +1,12 @@
--- `door::registers::give_owed` meets its contract. Assumes nothing.
+-- `till::registers::give_owed` meets its contract. Assumes nothing.
 use borrow.Author.Needs.{needs}
 use Prim.Native.Nat.{_≤_}
 use native.Mathlib.Omega.{arith}
 use Rattle.quantity.proofs.Rim.{as-pos}
 use Rattle.door.proofs.Gives.{given}
-use Rattle.door.proofs.Bills.{owed-fitting, total-given}
-use Rattle.door.proofs.registers.give_owed.Statement.{statement}
-use Rattle.door.proofs.registers.give_owed.Tie as tie
+use Rattle.till.proofs.Bills.{owed-fitting, total-given}
+use Rattle.till.proofs.registers.give_owed.Statement.{statement}
+use Rattle.till.proofs.registers.give_owed.Tie as tie
 
 -- a total fits its number
 fits : (c : tie.After-known-told) → c .before .owed .given .0 .0 .0 ≤ 512000000
