@@ -13,7 +13,7 @@ from pathlib import Path
 sys.dont_write_bytecode = True
 sys.path.insert(0, str(Path(__file__).resolve().parents[1] / "tests" / "reference"))
 
-from imbrolt.quantities import A1, A3, I1, I3
+from paper.quantities import A1, A3, I1, I3
 from inputs.curves import limit_marks, measured
 from inputs.requests import any_key, line_of
 from inputs.seeded import Seeded

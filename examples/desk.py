@@ -6,8 +6,9 @@
     python3 desk.py --close 1001            hands out what is owed; keys used before are new again
     python3 desk.py --closings 1001         tells all that was ever handed out
 
-`--file PATH` names the file, desk.register if there is none. The head of imbrolt.py says how the
-library is made that this needs. The system is a POSIX one.
+`--file PATH` names the file, desk.register if there is none. The library that this needs is made by
+`make` in the repository, which writes target/native/libimbrolt.so; or `pip install` the wheel, which
+has it. The system is a POSIX one.
 
 Lines. A line is a customer number (0 to 2^64 - 1), a price in fen and a request line, parted by
 tabs and ended by a line feed, at most 1024 bytes with it; numbers are decimal, without a needless
@@ -53,10 +54,9 @@ from typing import NamedTuple
 
 sys.path.insert(0, str(Path(__file__).resolve().parents[1] / "bindings" / "python"))
 
-from imbrolt import Kind, Refusal, Refused, Register, line as answer_line
+from imbrolt import ANSWER_MAX, Kind, Refusal, Refused, Register, answer_line
 
 LONGEST_LINE = 1024  # with its line feed
-LONGEST_ANSWER = 64  # of a request line
 MOST = 2 ** 64 - 1  # of customers and numbers of closings
 
 LINE = re.compile(rb"(0|[1-9][0-9]*)\t(0|-?[1-9][0-9]*)\t(.*\n)", re.DOTALL)
@@ -209,7 +209,7 @@ def asked_in(line):
 
 def rated(request):
     """The fields of the answer line of a request line."""
-    output = bytearray(LONGEST_ANSWER)
+    output = bytearray(ANSWER_MAX)
     length = answer_line(request, output)
     return bytes(output[:length]).rstrip(b"\n").split(b"\t")
 

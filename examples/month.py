@@ -2,7 +2,8 @@
 
     python3 examples/month.py
 
-The head of bindings/python/imbrolt.py says how the library is made that this needs.
+The library that this needs is made by `make` in the repository, which writes
+target/native/libimbrolt.so; or `pip install` the wheel, which has it.
 """
 
 import sys
@@ -11,7 +12,7 @@ from pathlib import Path
 
 sys.path.insert(0, str(Path(__file__).resolve().parents[1] / "bindings" / "python"))
 
-from imbrolt import Kind, Refused, Register
+from imbrolt import Kind, Refused, Register, open_register
 
 DOORS, FLOORS = 1001, 1002  # customer numbers
 DOOR = [240, 330, 400, 430, 440]
@@ -56,7 +57,7 @@ def month_end(register, folder):
 
 
 def main():
-    register = Register()
+    register = open_register()
     month(register)
     with tempfile.TemporaryDirectory() as name:
         folder = Path(name)

@@ -1,8 +1,8 @@
 /*
  * Imbrolt: sound insulation ratings in whole numbers, from a proved library.
  *
- * Link libdesk_c.a. It needs no other library, allocates nothing, keeps no state between calls and
- * may be called from any number of threads at once. A register that a call may change is lent to
+ * Link libimbrolt.a or libimbrolt.so (`pkg-config --cflags --libs imbrolt`). It needs no other library,
+ * allocates nothing, keeps no state between calls and may be called from any number of threads at once. A register that a call may change is lent to
  * that call alone.
  *
  * What every function has in common
@@ -35,25 +35,49 @@
 extern "C" {
 #endif
 
+/* The version of this header. That of the library that is linked is imbrolt_version(). */
+#define IMBROLT_VERSION 200 /* 10000 times the first part, 100 times the second, and the third */
+#define IMBROLT_VERSION_TEXT "0.2.0"
+
+/* The most bytes of a request line and of an answer line, with their line feeds. */
+#define IMBROLT_LINE_MAX 512
+#define IMBROLT_ANSWER_MAX 64
+
 /* What a call was refused for. */
 enum imbrolt_refusal {
     IMBROLT_OK = 0,
-    IMBROLT_BAND_COUNT = 1,          /* number of bands is not the kind's; or no such kind */
-    IMBROLT_NOT_FINITE = 2,          /* float is NaN or infinite */
-    IMBROLT_READING_MISSING = 3,     /* reading is missing */
-    IMBROLT_BAND_RANGE = 4,          /* band value outside -200..1500 tenths */
-    IMBROLT_BACKGROUND_TOO_NEAR = 5, /* laboratory rule: level less background under 60 tenths */
-    IMBROLT_DERIVED_RANGE = 6,       /* value worked out lies outside -200..1500 tenths */
-    IMBROLT_TIME_RANGE = 7,          /* reverberation time outside 10..2000 hundredths of a second */
-    IMBROLT_TARGET_NOT_BETTER = 8,   /* target is not better than the rating */
-    IMBROLT_TARGET_RANGE = 9,        /* target outside -100..200 decibels */
-    IMBROLT_OUTPUT_TOO_SMALL = 10,   /* lent array too small for the answer, or offset past its end */
-    IMBROLT_NOT_A_REQUEST = 11,      /* line is not a request (in answer lines); or key is none */
-    IMBROLT_NOT_SPECIMENS = 12,      /* specimens are not 48 values */
-    IMBROLT_PRICE_RANGE = 16,        /* price outside 0..1,000,000 fen */
-    IMBROLT_OTHER_BANDS = 17,        /* same customer and key with another kind or other bands */
-    IMBROLT_REGISTER_FULL = 18,      /* no room for a new key */
-    IMBROLT_REGISTER_DAMAGED = 19    /* register that no calls could have left so */
+    /* the number of bands is not the kind's */
+    IMBROLT_BAND_COUNT = 1,
+    /* a float is NaN or infinite */
+    IMBROLT_NOT_FINITE = 2,
+    /* a reading is missing */
+    IMBROLT_READING_MISSING = 3,
+    /* a band value lies outside -20.0 to 150.0 dB */
+    IMBROLT_BAND_RANGE = 4,
+    /* laboratory rule: the total lies less than 6.0 dB above the background */
+    IMBROLT_BACKGROUND_TOO_NEAR = 5,
+    /* a derived value lies outside -20.0 to 150.0 dB */
+    IMBROLT_DERIVED_RANGE = 6,
+    /* the reverberation time lies outside 0.10 to 20.00 s */
+    IMBROLT_TIME_RANGE = 7,
+    /* the target is not better than the rating */
+    IMBROLT_TARGET_NOT_BETTER = 8,
+    /* the target lies outside -100 to 200 dB */
+    IMBROLT_TARGET_RANGE = 9,
+    /* the lent output is too small for the answer, or the offset lies beyond its end */
+    IMBROLT_OUTPUT_TOO_SMALL = 10,
+    /* the line is not a request, or the key has not a key's shape */
+    IMBROLT_NOT_A_REQUEST = 11,
+    /* the specimens are not 48 values */
+    IMBROLT_SPECIMEN_COUNT = 12,
+    /* the price lies outside 0 to 1,000,000 fen */
+    IMBROLT_PRICE_RANGE = 16,
+    /* the same customer and key came with another kind or other bands */
+    IMBROLT_OTHER_BANDS = 17,
+    /* there is no room for a new key */
+    IMBROLT_REGISTER_FULL = 18,
+    /* no calls could have left the register so */
+    IMBROLT_REGISTER_DAMAGED = 19
 };
 
 /* What was measured. Any other number is no kind, and is refused with IMBROLT_BAND_COUNT. */
@@ -77,26 +101,103 @@ enum imbrolt_side {
     IMBROLT_INSIDE = 1
 };
 
-/* The places that each answer needs. */
-enum imbrolt_places {
-    IMBROLT_READING_PLACES = 2,
-    IMBROLT_SHEET_PLACES = 6,
-    IMBROLT_COVER_PLACES = 3,
-    IMBROLT_FIELD_PLACES = 2,
-    IMBROLT_LABORATORY_PLACES = 1,
-    IMBROLT_RAW_PLACES = 2,
-    IMBROLT_OCTAVES_PLACES = 6,
-    IMBROLT_SPECIMENS_PLACES = 17,
-    IMBROLT_GRADE_PLACES = 6,
-    IMBROLT_LIFT_THIRDS_PLACES = 696, /* of the list, for A3 and I3 */
-    IMBROLT_LIFT_OCTAVES_PLACES = 25, /* of the list, for A1 and I1 */
-    IMBROLT_LIFT_PLACES = 1,
-    IMBROLT_WROTE_PLACES = 1,
-    IMBROLT_PROGRESS_PLACES = 3,
-    IMBROLT_BILL_PLACES = 7,
-    IMBROLT_OWED_PLACES = 1,
-    IMBROLT_CLOSE_PLACES = 1
+/* Where each number of an answer stands, and how many places an answer needs. */
+
+/* imbrolt_take_reading, imbrolt_correct_field, imbrolt_standardized */
+enum imbrolt_value {
+    IMBROLT_VALUE_TENTHS = 0,
+    IMBROLT_VALUE_LIMIT = 1,
+    IMBROLT_VALUE_PLACES = 2
 };
+
+/* imbrolt_correct_laboratory */
+enum imbrolt_level {
+    IMBROLT_LEVEL_TENTHS = 0,
+    IMBROLT_LEVEL_PLACES = 1
+};
+
+/* imbrolt_rate, imbrolt_rate_readings */
+enum imbrolt_sheet {
+    IMBROLT_SHEET_RATING = 0,
+    IMBROLT_SHEET_FIRST = 1,
+    IMBROLT_SHEET_SECOND = 2,
+    IMBROLT_SHEET_HAS_SECOND = 3,
+    IMBROLT_SHEET_SHIFTS = 4,
+    IMBROLT_SHEET_LIMIT = 5,
+    IMBROLT_SHEET_PLACES = 6
+};
+
+/* imbrolt_cover */
+enum imbrolt_improvement {
+    IMBROLT_COVER_IMPROVEMENT = 0,
+    IMBROLT_COVER_TERM = 1,
+    IMBROLT_COVER_LIMIT = 2,
+    IMBROLT_COVER_PLACES = 3
+};
+
+/* imbrolt_octaves: the first of 5 values, and their marks */
+enum imbrolt_octave_means {
+    IMBROLT_OCTAVES_VALUES = 0,
+    IMBROLT_OCTAVES_MARKS = 5,
+    IMBROLT_OCTAVES_PLACES = 6
+};
+
+/* imbrolt_specimens: the first of 16 values, and their marks */
+enum imbrolt_specimen_means {
+    IMBROLT_SPECIMENS_VALUES = 0,
+    IMBROLT_SPECIMENS_MARKS = 16,
+    IMBROLT_SPECIMENS_PLACES = 17
+};
+
+/* imbrolt_grade */
+enum imbrolt_graded {
+    IMBROLT_GRADE_RATING = 0,
+    IMBROLT_GRADE_C = 1,
+    IMBROLT_GRADE_CTR = 2,
+    IMBROLT_GRADE_DECIDING = 3,
+    IMBROLT_GRADE_GRADE = 4,
+    IMBROLT_GRADE_LIMIT = 5,
+    IMBROLT_GRADE_PLACES = 6
+};
+
+/* imbrolt_lift: the count; and the places that the list itself needs */
+enum imbrolt_lifted {
+    IMBROLT_LIFT_COUNT = 0,
+    IMBROLT_LIFT_PLACES = 1,
+    IMBROLT_LIFT_THIRDS_PLACES = 696, /* for A3 and I3 */
+    IMBROLT_LIFT_OCTAVES_PLACES = 25  /* for A1 and I1 */
+};
+
+/* imbrolt_answer_line */
+enum imbrolt_wrote {
+    IMBROLT_WROTE_BYTES = 0,
+    IMBROLT_WROTE_PLACES = 1
+};
+
+/* imbrolt_answer_block */
+enum imbrolt_progress {
+    IMBROLT_PROGRESS_USED = 0,
+    IMBROLT_PROGRESS_WROTE = 1,
+    IMBROLT_PROGRESS_SKIPPING = 2,
+    IMBROLT_PROGRESS_PLACES = 3
+};
+
+/* imbrolt_bill: the sheet, in the places of imbrolt_sheet, and the charge */
+enum imbrolt_billed {
+    IMBROLT_BILL_SHEET = 0,
+    IMBROLT_BILL_CHARGED = 6,
+    IMBROLT_BILL_PLACES = 7
+};
+
+/* imbrolt_owed, imbrolt_close */
+enum imbrolt_total {
+    IMBROLT_OWED_TOTAL = 0,
+    IMBROLT_OWED_PLACES = 1
+};
+
+/* The version of the library: IMBROLT_VERSION of its header. Never refused; this is the one function whose
+ * return value is not a refusal's number. */
+uint32_t imbrolt_version(void);
 
 /*
  * Takes in one reading of an analyser: the tenth nearest the float's exact value, a tie to the greater.
@@ -106,7 +207,7 @@ enum imbrolt_places {
  *
  * Refusals: IMBROLT_READING_MISSING, IMBROLT_NOT_FINITE, IMBROLT_BAND_RANGE, IMBROLT_OUTPUT_TOO_SMALL.
  */
-uint32_t imbrolt_reading(uint32_t mark, float value, int32_t *out, size_t out_len);
+uint32_t imbrolt_take_reading(uint32_t mark, float value, int32_t *out, size_t out_len);
 
 /*
  * Rates a set of bands, values[0] the lowest, in tenths.
@@ -156,7 +257,7 @@ uint32_t imbrolt_cover(const int32_t *values, size_t values_len, uint32_t marks,
  *
  * Refusals: IMBROLT_BAND_RANGE for the total, then for the background; IMBROLT_OUTPUT_TOO_SMALL.
  */
-uint32_t imbrolt_field(int32_t total, int32_t background, int32_t *out, size_t out_len);
+uint32_t imbrolt_correct_field(int32_t total, int32_t background, int32_t *out, size_t out_len);
 
 /*
  * Corrects a level for background noise by the laboratory rule; both in tenths.
@@ -166,7 +267,7 @@ uint32_t imbrolt_field(int32_t total, int32_t background, int32_t *out, size_t o
  * Refusals: IMBROLT_BAND_RANGE for the total, then for the background; IMBROLT_BACKGROUND_TOO_NEAR;
  * IMBROLT_OUTPUT_TOO_SMALL.
  */
-uint32_t imbrolt_laboratory(int32_t total, int32_t background, int32_t *out, size_t out_len);
+uint32_t imbrolt_correct_laboratory(int32_t total, int32_t background, int32_t *out, size_t out_len);
 
 /*
  * Works out the standardized level difference of one raw band: source-room level, receiving-room
@@ -179,7 +280,7 @@ uint32_t imbrolt_laboratory(int32_t total, int32_t background, int32_t *out, siz
  * IMBROLT_NOT_FINITE, IMBROLT_TIME_RANGE for the time; IMBROLT_DERIVED_RANGE;
  * IMBROLT_OUTPUT_TOO_SMALL.
  */
-uint32_t imbrolt_raw(float source, float receiving, float background, float time, int32_t *out,
+uint32_t imbrolt_standardized(float source, float receiving, float background, float time, int32_t *out,
                      size_t out_len);
 
 /*
@@ -201,7 +302,7 @@ uint32_t imbrolt_octaves(const int32_t *values, size_t values_len, uint32_t mark
  *   out[0] .. out[15]  the means in tenths, from the lowest band
  *   out[16]            their marks, bits 0 to 15
  *
- * Refusals: IMBROLT_NOT_SPECIMENS; then for each reading in the order given IMBROLT_READING_MISSING,
+ * Refusals: IMBROLT_SPECIMEN_COUNT; then for each reading in the order given IMBROLT_READING_MISSING,
  * IMBROLT_NOT_FINITE, IMBROLT_BAND_RANGE; then IMBROLT_OUTPUT_TOO_SMALL.
  */
 uint32_t imbrolt_specimens(const uint8_t *marks, size_t marks_len, const float *values,
@@ -248,7 +349,7 @@ uint32_t imbrolt_lift(uint32_t kind, const int32_t *values, size_t values_len, u
  * line `?`, `?`, 11; the call itself is refused only with IMBROLT_OUTPUT_TOO_SMALL (at is past the
  * end of out, the line does not fit between at and the end, or wrote has no place).
  */
-uint32_t imbrolt_line(const uint8_t *line, size_t line_len, uint8_t *out, size_t out_len, size_t at,
+uint32_t imbrolt_answer_line(const uint8_t *line, size_t line_len, uint8_t *out, size_t out_len, size_t at,
                       uint64_t *wrote, size_t wrote_len);
 
 /*
@@ -267,7 +368,7 @@ uint32_t imbrolt_line(const uint8_t *line, size_t line_len, uint8_t *out, size_t
  *
  * Refused only with IMBROLT_OUTPUT_TOO_SMALL, where progress has fewer than 3 places.
  */
-uint32_t imbrolt_block(const uint8_t *input, size_t input_len, uint32_t skipping, uint32_t last,
+uint32_t imbrolt_answer_block(const uint8_t *input, size_t input_len, uint32_t skipping, uint32_t last,
                        uint8_t *out, size_t out_len, uint64_t *progress, size_t progress_len);
 
 /* The most entries of a register. */
@@ -305,7 +406,7 @@ _Static_assert(sizeof(imbrolt_register) == 57352, "a register has no gaps");
 #endif
 
 /* Opens a register empty: all its bytes become 0, whatever they were. Never refused. */
-uint32_t imbrolt_register_open(imbrolt_register *reg);
+uint32_t imbrolt_open_register(imbrolt_register *reg);
 
 /*
  * Rates a set, given as for imbrolt_rate, on a customer's bill: a new key is entered and charged; the

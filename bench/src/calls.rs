@@ -89,7 +89,7 @@ pub fn time_calls() {
         floats => grade(0, &[0; 48], floats, &mut out));
     let mut text = [0; 64];
     let mut wrote = [0];
-    row!("line, airborne thirds", lines(), line => line(line, &mut text, 0, &mut wrote));
+    row!("line, airborne thirds", lines(), line => answer_line(line, &mut text, 0, &mut wrote));
     time_bills();
     time_closings();
 }

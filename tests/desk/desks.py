@@ -18,6 +18,7 @@ def desk_module():
 
 
 desk = desk_module()
+desk.Register()  # loads the library, once for all desks that are forked
 
 DOOR = (b"24.0", b"33.0", b"40.0", b"43.0", b"44.0")
 DOOR_SHEET = (b"0", b"42", b"-2", b"-6", b"0", b"=")

@@ -7,7 +7,6 @@ WORDS.., PROGRAM lines WORDS.. and PROGRAM steps WORDS..), by the Python binding
 all have to agree, of a register on every byte after every step.
 """
 
-import importlib.util
 import struct
 import subprocess
 import sys
@@ -16,12 +15,13 @@ from pathlib import Path
 
 sys.dont_write_bytecode = True
 ROOT = Path(__file__).resolve().parents[2]
-sys.path.insert(0, str(ROOT / "tests" / "reference"))
+sys.path[:0] = [str(ROOT / "tests" / "reference"), str(ROOT / "bindings" / "python")]
 
+import imbrolt
 from cases import answer_of_case, sheet_numbers, text_of_numbers
-from imbrolt.lines import answers_of
-from imbrolt.quantities import Refused
-from imbrolt.register import ENTRY, SIZE
+from paper.lines import answers_of
+from paper.quantities import Refused
+from paper.register import ENTRY, SIZE
 from inputs import MAKERS, SEED
 from inputs.histories import histories, taken
 from inputs.requests import request_data
@@ -31,18 +31,6 @@ SEEDS = (1, 2, 3)
 
 # Operation 4, the intake of a time, is no call of its own: raw bands have it.
 OPERATIONS = tuple(operation for operation in MAKERS if operation != 4)
-
-
-def binding_module():
-    """The Python binding; its name is that of the reference's package, too."""
-    spec = importlib.util.spec_from_file_location(
-        "imbrolt_binding", ROOT / "bindings" / "python" / "imbrolt.py")
-    module = importlib.util.module_from_spec(spec)
-    spec.loader.exec_module(module)
-    return module
-
-
-binding = binding_module()
 
 
 def cases_of(seed):
@@ -63,12 +51,12 @@ def values_of(length, values):
 
 
 def readings_of(length, pairs):
-    given = [binding.Reading(mark, float_of(bits)) for mark, bits in zip(pairs[::2], pairs[1::2])]
-    return (given + max(0, length - len(given)) * [binding.MISSING])[:length]
+    given = [imbrolt.Reading(mark, float_of(bits)) for mark, bits in zip(pairs[::2], pairs[1::2])]
+    return (given + max(0, length - len(given)) * [imbrolt.MISSING])[:length]
 
 
 def lifted(kind, length, _marks, target, _places, *values):
-    masks = binding.lift(kind, values_of(length, values), target)
+    masks = imbrolt.lift(kind, values_of(length, values), target)
     return [len(masks), *masks]
 
 
@@ -78,17 +66,17 @@ def flat(bands):
 
 BINDING = {
     1: lambda kind, length, marks, *values: sheet_numbers(
-        binding.rate(kind, values_of(length, values), marks)),
-    2: lambda mark, bits: binding.reading(binding.Reading(mark, float_of(bits))),
+        imbrolt.rate(kind, values_of(length, values), marks)),
+    2: lambda mark, bits: imbrolt.take_reading(imbrolt.Reading(mark, float_of(bits))),
     3: lambda kind, length, *pairs: sheet_numbers(
-        binding.rate_readings(kind, readings_of(length, pairs))),
-    5: binding.field,
-    6: lambda *levels: [binding.laboratory(*levels)],
-    7: lambda *bits: binding.raw(*map(float_of, bits)),
-    8: lambda length, marks, *values: flat(binding.octaves(values_of(length, values), marks)),
-    9: lambda length, *pairs: flat(binding.specimens(readings_of(length, pairs))),
-    10: lambda length, marks, *values: binding.cover(values_of(length, values), marks),
-    11: lambda side, length, *pairs: binding.grade(side, readings_of(length, pairs)),
+        imbrolt.rate_readings(kind, readings_of(length, pairs))),
+    5: imbrolt.correct_field,
+    6: lambda *levels: [imbrolt.correct_laboratory(*levels)],
+    7: lambda *bits: imbrolt.standardized(*map(float_of, bits)),
+    8: lambda length, marks, *values: flat(imbrolt.octaves(values_of(length, values), marks)),
+    9: lambda length, *pairs: flat(imbrolt.specimens(readings_of(length, pairs))),
+    10: lambda length, marks, *values: imbrolt.cover(values_of(length, values), marks),
+    11: lambda side, length, *pairs: imbrolt.grade(side, readings_of(length, pairs)),
     12: lifted,
 }
 
@@ -97,7 +85,7 @@ def answer_by_binding(case):
     operation, *numbers = case
     try:
         return [0, *BINDING[operation](*numbers)]
-    except binding.Refused as refused:
+    except imbrolt.Refused as refused:
         return [int(refused.refusal)]
 
 
@@ -161,10 +149,10 @@ def step_by_binding(register, step):
     refused, answer = 0, None
     try:
         if step[0] == "open":
-            register = binding.Register()
+            register = imbrolt.open_register()
         elif step[0] == "put":
             place, data = step[1:]
-            register = binding.Register.from_bytes(
+            register = imbrolt.Register.from_bytes(
                 before[:place] + data + before[place + len(data):])
         elif step[0] == "bill":
             call = step[1]
@@ -172,7 +160,7 @@ def step_by_binding(register, step):
                                    call.price, call.band_set.marks)
         elif step[0] in ("owed", "close"):
             answer = getattr(register, step[0])(step[1])
-    except binding.Refused as refusal:
+    except imbrolt.Refused as refusal:
         refused = int(refusal.refusal)
     return text_of_answer(step, refused, answer, before, register.to_bytes()), register
 
@@ -233,7 +221,7 @@ def compare_histories(seed, program):
     answered = asked("steps", asked_text.encode(), program).decode().splitlines()
     if len(answered) != len(steps):
         return len(steps), f"{len(answered)} answers to {len(steps)} steps"
-    memory, register = bytearray(SIZE), binding.Register()
+    memory, register = bytearray(SIZE), imbrolt.open_register()
     for place, (step, answer) in enumerate(zip(steps, answered)):
         wanted = answer_by_reference(memory, step)
         texts = {"desk_c": answer}

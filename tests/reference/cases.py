@@ -9,8 +9,8 @@ import sys
 
 sys.dont_write_bytecode = True
 
-from imbrolt import lift, quantities, rating, rooms
-from imbrolt.quantities import BandSet, KINDS, Reading, Refused
+from paper import lift, quantities, rating, rooms
+from paper.quantities import BandSet, KINDS, Reading, Refused
 
 
 def readings_of(numbers):

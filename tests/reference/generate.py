@@ -16,7 +16,7 @@ from pathlib import Path
 sys.dont_write_bytecode = True
 
 from cases import answer_of_case, text_of_numbers
-from imbrolt.lines import answers_of
+from paper.lines import answers_of
 from inputs import inputs_of
 from inputs.requests import request_data
 

@@ -3,7 +3,7 @@
     python3 tests/reference/tables.py            writes them
     python3 tests/reference/tables.py --check    compares them
 
-Every entry is worked out here from its power rule (imbrolt/energies.py).
+Every entry is worked out here from its power rule (paper/energies.py).
 """
 
 import argparse
@@ -14,8 +14,8 @@ from pathlib import Path
 sys.dont_write_bytecode = True
 
 from generate import check, write
-from imbrolt.energies import F, G, H, c, k, u
-from imbrolt.search import least
+from paper.energies import F, G, H, c, k, u
+from paper.search import least
 
 ENERGY = Path(__file__).resolve().parents[2] / "crates" / "energy"
 

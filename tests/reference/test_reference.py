@@ -17,13 +17,13 @@ from itertools import accumulate, combinations, product
 sys.dont_write_bytecode = True
 
 from cases import OPERATIONS, answer_of_case, answers_of_cases
-from imbrolt import energies, lift, quantities, rating, register, rooms
-from imbrolt.energies import B, F, G, H
-from imbrolt.lines import (
+from paper import energies, lift, quantities, rating, register, rooms
+from paper.energies import B, F, G, H
+from paper.lines import (
     KEY, answer_line, answer_line_into, answers_of, band_of_text, request_of_line)
-from imbrolt.quantities import (
+from paper.quantities import (
     A1, A3, BandSet, I1, I3, KINDS, LEVEL, LIMIT, MISSING, Reading, Refused)
-from imbrolt.rating import position_of, rating_of, sheet_of, total_deficit
+from paper.rating import position_of, rating_of, sheet_of, total_deficit
 from inputs import inputs_of
 from inputs.curves import bits_nearest, measured
 from inputs.histories import histories, taken

@@ -1,7 +1,7 @@
 //! Request lines to answer lines by the plain implementation: whole numbers, tables, no copies of
 //! lines, 64 KiB each way. It is timed beside the proved program, which moves bytes the same way.
 
-use imbrolt_plain::door::block;
+use imbrolt_plain::door::answer_block;
 use std::fs::File;
 use std::io::{self, Read, Write};
 use std::os::fd::AsFd;
@@ -21,15 +21,15 @@ fn main() -> io::Result<()> {
         let mut start = 0;
         loop {
             let mut progress = [0; 3];
-            block(
+            answer_block(
                 &asked[start..filled],
                 skipping,
                 u32::from(got == 0),
                 &mut answered,
                 &mut progress,
             );
-            let [used, written, skips] = progress.map(|number| number as usize);
-            output.write_all(&answered[..written])?;
+            let [used, wrote, skips] = progress.map(|number| number as usize);
+            output.write_all(&answered[..wrote])?;
             start += used;
             skipping = skips as u32;
             if used == 0 || start == filled {

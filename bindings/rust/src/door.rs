@@ -1,7 +1,7 @@
 //! The C functions with slices in place of pointers and lengths.
 //!
-//! Each answers 0 or a refusal's number, as `include/imbrolt.h` says; the typed calls of the crate
-//! stand on these.
+//! Each but [`version`] answers 0 or a refusal's number, as `include/imbrolt.h` says; the typed calls
+//! of the crate stand on these.
 // Safe: each C function reads and writes within the slices and the register that it is given, and
 // they are borrowed for the length of the call; what is lent to write is lent to nothing else.
 
@@ -10,9 +10,14 @@ use crate::sys;
 /// A register as it stands in memory: 512 entries of 112 bytes and their count, as words.
 pub type Register = [u64; 7169];
 
+/// The version of the library that is linked.
+pub fn version() -> u32 {
+    unsafe { sys::imbrolt_version() }
+}
+
 /// Intake of a reading: tenths, limit.
-pub fn reading(mark: u32, value: f32, out: &mut [i32]) -> u32 {
-    unsafe { sys::imbrolt_reading(mark, value, out.as_mut_ptr(), out.len()) }
+pub fn take_reading(mark: u32, value: f32, out: &mut [i32]) -> u32 {
+    unsafe { sys::imbrolt_take_reading(mark, value, out.as_mut_ptr(), out.len()) }
 }
 
 /// Rating of a set: rating, first term, second term, whether there is one, shifts, limit.
@@ -43,18 +48,26 @@ pub fn cover(values: &[i32], marks: u32, out: &mut [i32]) -> u32 {
 }
 
 /// Field rule: level, limit.
-pub fn field(total: i32, background: i32, out: &mut [i32]) -> u32 {
-    unsafe { sys::imbrolt_field(total, background, out.as_mut_ptr(), out.len()) }
+pub fn correct_field(total: i32, background: i32, out: &mut [i32]) -> u32 {
+    unsafe { sys::imbrolt_correct_field(total, background, out.as_mut_ptr(), out.len()) }
 }
 
 /// Laboratory rule: level.
-pub fn laboratory(total: i32, background: i32, out: &mut [i32]) -> u32 {
-    unsafe { sys::imbrolt_laboratory(total, background, out.as_mut_ptr(), out.len()) }
+pub fn correct_laboratory(total: i32, background: i32, out: &mut [i32]) -> u32 {
+    unsafe { sys::imbrolt_correct_laboratory(total, background, out.as_mut_ptr(), out.len()) }
 }
 
 /// Raw band: difference, limit.
-pub fn raw(source: f32, receiving: f32, background: f32, time: f32, out: &mut [i32]) -> u32 {
-    unsafe { sys::imbrolt_raw(source, receiving, background, time, out.as_mut_ptr(), out.len()) }
+pub fn standardized(
+    source: f32,
+    receiving: f32,
+    background: f32,
+    time: f32,
+    out: &mut [i32],
+) -> u32 {
+    unsafe {
+        sys::imbrolt_standardized(source, receiving, background, time, out.as_mut_ptr(), out.len())
+    }
 }
 
 /// Octaves of thirds: five values, marks.
@@ -118,9 +131,9 @@ pub fn lift(
 }
 
 /// Line call: the answer line to `out` from the place `at` on, its length to `wrote`.
-pub fn line(line: &[u8], out: &mut [u8], at: usize, wrote: &mut [u64]) -> u32 {
+pub fn answer_line(line: &[u8], out: &mut [u8], at: usize, wrote: &mut [u64]) -> u32 {
     unsafe {
-        sys::imbrolt_line(
+        sys::imbrolt_answer_line(
             line.as_ptr(),
             line.len(),
             out.as_mut_ptr(),
@@ -133,9 +146,15 @@ pub fn line(line: &[u8], out: &mut [u8], at: usize, wrote: &mut [u64]) -> u32 {
 }
 
 /// Block call: bytes used, bytes written and the skipping flag to `progress`.
-pub fn block(input: &[u8], skipping: u32, last: u32, out: &mut [u8], progress: &mut [u64]) -> u32 {
+pub fn answer_block(
+    input: &[u8],
+    skipping: u32,
+    last: u32,
+    out: &mut [u8],
+    progress: &mut [u64],
+) -> u32 {
     unsafe {
-        sys::imbrolt_block(
+        sys::imbrolt_answer_block(
             input.as_ptr(),
             input.len(),
             skipping,
@@ -149,8 +168,8 @@ pub fn block(input: &[u8], skipping: u32, last: u32, out: &mut [u8], progress: &
 }
 
 /// Opens a register empty.
-pub fn register_open(register: &mut Register) -> u32 {
-    unsafe { sys::imbrolt_register_open(register.as_mut_ptr()) }
+pub fn open_register(register: &mut Register) -> u32 {
+    unsafe { sys::imbrolt_open_register(register.as_mut_ptr()) }
 }
 
 /// A call on a register: the sheet as [`rate`], and what is charged now.

@@ -1,33 +1,19 @@
-//! Sound insulation ratings in whole numbers: safe calls of a proved library.
-//!
-//! ```
-//! use imbrolt::{rate, Decibels, Kind, Tenths};
-//!
-//! let wall = [
-//!     204, 163, 177, 226, 224, 227, 248, 266, 280, 305, 318, 325, 334, 330, 310, 255,
-//! ].map(Tenths);
-//! let sheet = rate(Kind::A3, &wall, 0)?;
-//! assert_eq!(sheet.rating, Decibels(30));
-//! assert_eq!((sheet.first, sheet.second), (Decibels(-2), Some(Decibels(-3))));
-//! # Ok::<(), imbrolt::Refusal>(())
-//! ```
-//!
-//! Measured values are whole [`Tenths`] of a decibel, ratings and terms whole [`Decibels`], prices
-//! whole [`Fen`]. Limit marks of a set are a `u16`, bit i the mark of band i, band 0 the lowest. A
-//! refused call answers a [`Refusal`] and changes nothing that was lent to it.
-//!
-//! [`door`] has the same calls on bare numbers, as C has them.
+#![doc = include_str!("../README.md")]
 
 pub mod door;
+mod numbered;
 mod register;
 mod sys;
 mod types;
 
-pub use register::Register;
+pub use numbered::{Kind, Refusal, Side, UnknownKind, UnknownRefusal, UnknownSide};
+pub use register::{open_register, Register};
 pub use types::{
-    Bands, Billed, Cover, Decibels, Fen, Grade, Kind, Progress, RawBand, Reading, Refusal, Sheet,
-    Side, Tenths, Value,
+    Bands, Billed, Cover, Decibels, Fen, Grade, Progress, RawBand, Reading, Sheet, Tenths, Value,
 };
+
+/// The version of this crate. That of the library that is linked is [`version`].
+pub const VERSION: &str = env!("CARGO_PKG_VERSION");
 
 /// The numbers that a call writes, or its refusal.
 fn answered<const N: usize>(call: impl FnOnce(&mut [i32]) -> u32) -> Result<[i32; N], Refusal> {
@@ -39,7 +25,7 @@ fn accepted(number: u32) -> Result<(), Refusal> {
     if number == 0 {
         return Ok(());
     }
-    Err(Refusal::of_number(number).expect("a call answers 0 or a refusal's number"))
+    Err(Refusal::try_from(number).expect("a call answers 0 or a refusal's number"))
 }
 
 /// The bare numbers of some tenths.
@@ -75,20 +61,26 @@ fn sheet([rating, first, second, has_second, shifts, limit]: [i32; 6]) -> Sheet 
     }
 }
 
+/// The version of the library that is linked: 10000 times the first part, 100 times the second, and
+/// the third.
+pub fn version() -> u32 {
+    door::version()
+}
+
 /// Takes in one reading: the tenth nearest its exact value, a tie to the greater.
 ///
 /// Refused with `ReadingMissing`, `NotFinite`, `BandRange`, in this order.
 ///
 /// ```
-/// use imbrolt::{reading, Reading, Refusal, Tenths};
-/// assert_eq!(reading(Reading::Level(-0.25))?.tenths, Tenths(-2));
-/// assert!(reading(Reading::Limit(62.4))?.limit);
-/// assert_eq!(reading(Reading::Level(150.0625)), Err(Refusal::BandRange));
+/// use imbrolt::{take_reading, Reading, Refusal, Tenths};
+/// assert_eq!(take_reading(Reading::Level(-0.25))?.tenths, Tenths(-2));
+/// assert!(take_reading(Reading::Limit(62.4))?.limit);
+/// assert_eq!(take_reading(Reading::Level(150.0625)), Err(Refusal::BandRange));
 /// # Ok::<(), Refusal>(())
 /// ```
-pub fn reading(reading: Reading) -> Result<Value, Refusal> {
+pub fn take_reading(reading: Reading) -> Result<Value, Refusal> {
     let (mark, float) = mark_and_float(reading);
-    answered(|out| door::reading(u32::from(mark), float, out)).map(value)
+    answered(|out| door::take_reading(u32::from(mark), float, out)).map(value)
 }
 
 /// Rates a set of bands from the lowest.
@@ -104,7 +96,7 @@ pub fn reading(reading: Reading) -> Result<Value, Refusal> {
 /// # Ok::<(), Refusal>(())
 /// ```
 pub fn rate(kind: Kind, values: &[Tenths], marks: u16) -> Result<Sheet, Refusal> {
-    answered(|out| door::rate(kind as u32, numbers(values), u32::from(marks), out)).map(sheet)
+    answered(|out| door::rate(kind.into(), numbers(values), u32::from(marks), out)).map(sheet)
 }
 
 /// Rates readings from the lowest band.
@@ -121,7 +113,7 @@ pub fn rate(kind: Kind, values: &[Tenths], marks: u16) -> Result<Sheet, Refusal>
 /// ```
 pub fn rate_readings(kind: Kind, readings: &[Reading]) -> Result<Sheet, Refusal> {
     let (marks, floats) = parted(readings);
-    answered(|out| door::rate_readings(kind as u32, &marks, &floats, out)).map(sheet)
+    answered(|out| door::rate_readings(kind.into(), &marks, &floats, out)).map(sheet)
 }
 
 /// Rates the improvement by a floor cover, 16 thirds from the lowest.
@@ -146,13 +138,13 @@ pub fn cover(values: &[Tenths], marks: u16) -> Result<Cover, Refusal> {
 /// Refused with `BandRange`.
 ///
 /// ```
-/// use imbrolt::{field, Tenths};
-/// assert_eq!(field(Tenths(500), Tenths(430))?.tenths, Tenths(490));
-/// assert!(field(Tenths(500), Tenths(440))?.limit);
+/// use imbrolt::{correct_field, Tenths};
+/// assert_eq!(correct_field(Tenths(500), Tenths(430))?.tenths, Tenths(490));
+/// assert!(correct_field(Tenths(500), Tenths(440))?.limit);
 /// # Ok::<(), imbrolt::Refusal>(())
 /// ```
-pub fn field(total: Tenths, background: Tenths) -> Result<Value, Refusal> {
-    answered(|out| door::field(total.0, background.0, out)).map(value)
+pub fn correct_field(total: Tenths, background: Tenths) -> Result<Value, Refusal> {
+    answered(|out| door::correct_field(total.0, background.0, out)).map(value)
 }
 
 /// Corrects a level for background noise by the laboratory rule. The result is not tested for range.
@@ -160,13 +152,13 @@ pub fn field(total: Tenths, background: Tenths) -> Result<Value, Refusal> {
 /// Refused with `BandRange`, `BackgroundTooNear`, in this order.
 ///
 /// ```
-/// use imbrolt::{laboratory, Refusal, Tenths};
-/// assert_eq!(laboratory(Tenths(500), Tenths(440))?, Tenths(487));
-/// assert_eq!(laboratory(Tenths(500), Tenths(441)), Err(Refusal::BackgroundTooNear));
+/// use imbrolt::{correct_laboratory, Refusal, Tenths};
+/// assert_eq!(correct_laboratory(Tenths(500), Tenths(440))?, Tenths(487));
+/// assert_eq!(correct_laboratory(Tenths(500), Tenths(441)), Err(Refusal::BackgroundTooNear));
 /// # Ok::<(), Refusal>(())
 /// ```
-pub fn laboratory(total: Tenths, background: Tenths) -> Result<Tenths, Refusal> {
-    let [level] = answered(|out| door::laboratory(total.0, background.0, out))?;
+pub fn correct_laboratory(total: Tenths, background: Tenths) -> Result<Tenths, Refusal> {
+    let [level] = answered(|out| door::correct_laboratory(total.0, background.0, out))?;
     Ok(Tenths(level))
 }
 
@@ -176,14 +168,14 @@ pub fn laboratory(total: Tenths, background: Tenths) -> Result<Tenths, Refusal> 
 /// `TimeRange` for the time; then `DerivedRange`.
 ///
 /// ```
-/// use imbrolt::{raw, RawBand, Tenths};
+/// use imbrolt::{standardized, RawBand, Tenths};
 /// let band = RawBand { source: 95.0, receiving: 55.0, background: 30.0, time: 1.0 };
-/// assert_eq!(raw(band)?.tenths, Tenths(430));
+/// assert_eq!(standardized(band)?.tenths, Tenths(430));
 /// # Ok::<(), imbrolt::Refusal>(())
 /// ```
-pub fn raw(band: RawBand) -> Result<Value, Refusal> {
+pub fn standardized(band: RawBand) -> Result<Value, Refusal> {
     let RawBand { source, receiving, background, time } = band;
-    answered(|out| door::raw(source, receiving, background, time, out)).map(value)
+    answered(|out| door::standardized(source, receiving, background, time, out)).map(value)
 }
 
 /// Forms the 5 octaves of 16 thirds; the last third is not used.
@@ -207,7 +199,7 @@ fn bands<const N: usize>(numbers: &[i32]) -> Bands<N> {
 
 /// Forms the band means of three specimens: 48 readings, specimen after specimen.
 ///
-/// Refused with `NotSpecimens`; then for each reading with `ReadingMissing`, `NotFinite`,
+/// Refused with `SpecimenCount`; then for each reading with `ReadingMissing`, `NotFinite`,
 /// `BandRange`.
 ///
 /// ```
@@ -231,7 +223,7 @@ pub fn specimens(readings: &[Reading]) -> Result<Bands<16>, Refusal> {
 pub fn grade(side: Side, readings: &[Reading]) -> Result<Grade, Refusal> {
     let (marks, floats) = parted(readings);
     let [rating, c, ctr, deciding, grade, limit] =
-        answered(|out| door::grade(side as u32, &marks, &floats, out))?;
+        answered(|out| door::grade(side.into(), &marks, &floats, out))?;
     Ok(Grade {
         rating: Decibels(rating),
         c: Decibels(c),
@@ -270,7 +262,7 @@ pub fn lift_into(
     target: Decibels,
     list: &mut [u16],
 ) -> Result<usize, Refusal> {
-    let [count] = answered(|out| door::lift(kind as u32, numbers(values), 0, target.0, list, out))?;
+    let [count] = answered(|out| door::lift(kind.into(), numbers(values), 0, target.0, list, out))?;
     Ok(count as usize)
 }
 
@@ -280,15 +272,15 @@ pub fn lift_into(
 /// answered by a line that names its refusal.
 ///
 /// ```
-/// use imbrolt::line;
+/// use imbrolt::answer_line;
 /// let mut out = [0; 64];
-/// let length = line(b"A1\tK2\t24.0\t33.0\t40.0\t43.0\t44.0\n", &mut out, 0)?;
+/// let length = answer_line(b"A1\tK2\t24.0\t33.0\t40.0\t43.0\t44.0\n", &mut out, 0)?;
 /// assert_eq!(&out[..length], b"A1\tK2\t0\t42\t-2\t-6\t0\t=\n");
 /// # Ok::<(), imbrolt::Refusal>(())
 /// ```
-pub fn line(line: &[u8], out: &mut [u8], at: usize) -> Result<usize, Refusal> {
+pub fn answer_line(line: &[u8], out: &mut [u8], at: usize) -> Result<usize, Refusal> {
     let mut wrote = [0];
-    accepted(door::line(line, out, at, &mut wrote))?;
+    accepted(door::answer_line(line, out, at, &mut wrote))?;
     Ok(wrote[0] as usize)
 }
 
@@ -298,15 +290,16 @@ pub fn line(line: &[u8], out: &mut [u8], at: usize) -> Result<usize, Refusal> {
 /// this block. An `out` of 64 bytes has room for any answer.
 ///
 /// ```
-/// use imbrolt::block;
+/// use imbrolt::answer_block;
 /// let mut out = [0; 64];
-/// let got = block(b"what?\nA1\tK", false, false, &mut out);
-/// assert_eq!((got.used, &out[..got.written]), (6, &b"?\t?\t11\n"[..]));
+/// let got = answer_block(b"what?\nA1\tK", false, false, &mut out);
+/// assert_eq!((got.used, &out[..got.wrote]), (6, &b"?\t?\t11\n"[..]));
 /// ```
-pub fn block(input: &[u8], skipping: bool, last: bool, out: &mut [u8]) -> Progress {
+pub fn answer_block(input: &[u8], skipping: bool, last: bool, out: &mut [u8]) -> Progress {
     let mut progress = [0; 3];
-    let number = door::block(input, u32::from(skipping), u32::from(last), out, &mut progress);
+    let number =
+        door::answer_block(input, u32::from(skipping), u32::from(last), out, &mut progress);
     assert_eq!(number, 0, "three places are enough");
-    let [used, written, skipping] = progress;
-    Progress { used: used as usize, written: written as usize, skipping: skipping != 0 }
+    let [used, wrote, skipping] = progress;
+    Progress { used: used as usize, wrote: wrote as usize, skipping: skipping != 0 }
 }

@@ -9,8 +9,8 @@ use std::fmt;
 /// sheet and no charge. So a program that got no answer may ask again.
 ///
 /// ```
-/// use imbrolt::{Fen, Kind, Refusal, Register, Tenths};
-/// let mut register = Register::new();
+/// use imbrolt::{open_register, Fen, Kind, Refusal, Tenths};
+/// let mut register = open_register();
 /// let door = [240, 330, 400, 430, 440].map(Tenths);
 /// let first = register.bill(7, b"door-1", Kind::A1, &door, 0, Fen(500))?;
 /// let again = register.bill(7, b"door-1", Kind::A1, &door, 0, Fen(500))?;
@@ -22,16 +22,16 @@ use std::fmt;
 #[derive(Clone, PartialEq, Eq)]
 pub struct Register(Box<door::Register>);
 
+/// Opens a register without entries. That of [`Register::default`] is the same.
+pub fn open_register() -> Register {
+    let mut words = Box::new([0; Register::BYTES / 8]);
+    accepted(door::open_register(&mut words)).expect("a register is always opened");
+    Register(words)
+}
+
 impl Register {
     /// The size of a register in bytes.
     pub const BYTES: usize = size_of::<door::Register>();
-
-    /// A register without entries.
-    pub fn new() -> Register {
-        let mut words = Box::new([0; Register::BYTES / 8]);
-        accepted(door::register_open(&mut words)).expect("a register is always opened");
-        Register(words)
-    }
 
     /// Rates a set of bands from the lowest, and enters and charges its key if it is new.
     ///
@@ -41,8 +41,8 @@ impl Register {
     /// register is then unchanged.
     ///
     /// ```
-    /// use imbrolt::{Fen, Kind, Refusal, Register, Tenths};
-    /// let mut register = Register::new();
+    /// use imbrolt::{open_register, Fen, Kind, Refusal, Tenths};
+    /// let mut register = open_register();
     /// register.bill(7, b"K1", Kind::A3, &[Tenths(500); 16], 0, Fen(800))?;
     /// let other = register.bill(7, b"K1", Kind::A3, &[Tenths(501); 16], 0, Fen(800));
     /// assert_eq!(other, Err(Refusal::OtherBands));
@@ -59,7 +59,7 @@ impl Register {
         marks: u16,
         price: Fen,
     ) -> Result<Billed, Refusal> {
-        let (kind, values, marks) = (kind as u32, numbers(values), u32::from(marks));
+        let (kind, values, marks) = (kind.into(), numbers(values), u32::from(marks));
         let [a, b, c, d, e, f, charged] = answered(|out| {
             door::bill(&mut self.0, customer, key, kind, values, marks, price.0, out)
         })?;
@@ -72,7 +72,7 @@ impl Register {
     /// Refused with `RegisterDamaged`.
     ///
     /// ```
-    /// assert_eq!(imbrolt::Register::new().owed(7), Ok(imbrolt::Fen(0)));
+    /// assert_eq!(imbrolt::open_register().owed(7), Ok(imbrolt::Fen(0)));
     /// ```
     pub fn owed(&self, customer: u64) -> Result<Fen, Refusal> {
         answered(|out| door::owed(&self.0, customer, out)).map(total)
@@ -86,8 +86,8 @@ impl Register {
     /// for a customer without keys.
     ///
     /// ```
-    /// use imbrolt::{Fen, Kind, Refusal, Register, Tenths};
-    /// let mut register = Register::new();
+    /// use imbrolt::{open_register, Fen, Kind, Refusal, Tenths};
+    /// let mut register = open_register();
     /// let (door, sealed) = ([Tenths(400); 5], [Tenths(420); 5]);
     /// register.bill(7, b"door-1", Kind::A1, &door, 0, Fen(500))?;
     /// register.bill(8, b"door-1", Kind::A1, &door, 0, Fen(600))?;
@@ -117,8 +117,8 @@ impl Register {
     /// refused with `RegisterDamaged`.
     ///
     /// ```
-    /// use imbrolt::{Refusal, Register};
-    /// let register = Register::new();
+    /// use imbrolt::{open_register, Refusal, Register};
+    /// let register = open_register();
     /// assert_eq!(Register::from_bytes(register.as_bytes()), Some(register));
     /// assert_eq!(Register::from_bytes(&[0; 100]), None);
     /// let damaged = Register::from_bytes(&[0xff; Register::BYTES]).unwrap();
@@ -138,7 +138,7 @@ fn total([fen]: [i32; 1]) -> Fen {
 
 impl Default for Register {
     fn default() -> Register {
-        Register::new()
+        open_register()
     }
 }
 

@@ -3,7 +3,8 @@
 //! A register is given by its words, which are its 57352 bytes.
 
 extern "C" {
-    pub fn imbrolt_reading(mark: u32, value: f32, out: *mut i32, out_len: usize) -> u32;
+    pub fn imbrolt_version() -> u32;
+    pub fn imbrolt_take_reading(mark: u32, value: f32, out: *mut i32, out_len: usize) -> u32;
     pub fn imbrolt_rate(
         kind: u32,
         values: *const i32,
@@ -28,9 +29,15 @@ extern "C" {
         out: *mut i32,
         out_len: usize,
     ) -> u32;
-    pub fn imbrolt_field(total: i32, background: i32, out: *mut i32, out_len: usize) -> u32;
-    pub fn imbrolt_laboratory(total: i32, background: i32, out: *mut i32, out_len: usize) -> u32;
-    pub fn imbrolt_raw(
+    pub fn imbrolt_correct_field(total: i32, background: i32, out: *mut i32, out_len: usize)
+        -> u32;
+    pub fn imbrolt_correct_laboratory(
+        total: i32,
+        background: i32,
+        out: *mut i32,
+        out_len: usize,
+    ) -> u32;
+    pub fn imbrolt_standardized(
         source: f32,
         receiving: f32,
         background: f32,
@@ -73,7 +80,7 @@ extern "C" {
         out: *mut i32,
         out_len: usize,
     ) -> u32;
-    pub fn imbrolt_line(
+    pub fn imbrolt_answer_line(
         line: *const u8,
         line_len: usize,
         out: *mut u8,
@@ -82,7 +89,7 @@ extern "C" {
         wrote: *mut u64,
         wrote_len: usize,
     ) -> u32;
-    pub fn imbrolt_block(
+    pub fn imbrolt_answer_block(
         input: *const u8,
         input_len: usize,
         skipping: u32,
@@ -92,7 +99,7 @@ extern "C" {
         progress: *mut u64,
         progress_len: usize,
     ) -> u32;
-    pub fn imbrolt_register_open(register: *mut u64) -> u32;
+    pub fn imbrolt_open_register(register: *mut u64) -> u32;
     pub fn imbrolt_bill(
         register: *mut u64,
         customer: u64,

@@ -12,7 +12,7 @@ use lib.Seq.{length-take-le, take-suc, getD-drop}
 use Rattle.laws.specs.Parts.{P, N}
 use Rattle.quantity.specs.Refusals.{numberOf}
 use Rattle.quantity.specs.declared.refusals.Refusal.{Refusal}
-use Rattle.quantity.specs.declared.refusals.Refusal.the-variants.{BandCount, NotFinite, NoReading, BandRange, Background, DerivedRange, TimeRange, NotBetter, TargetRange, NoRoom, NotRequest, SpecimenCount, PriceRange, OtherBands, RegisterFull, RegisterDamaged}
+use Rattle.quantity.specs.declared.refusals.Refusal.the-variants.{BandCount, NotFinite, ReadingMissing, BandRange, BackgroundTooNear, DerivedRange, TimeRange, TargetNotBetter, TargetRange, OutputTooSmall, NotARequest, SpecimenCount, PriceRange, OtherBands, RegisterFull, RegisterDamaged}
 use Rattle.rating.specs.declared.sheets.Sheet.{Sheet}
 use Rattle.answer.specs.Texts.{tab, hyphen, digit, others, lineText, decimal, numberText, termText, setText, sheetFields, noRequestText}
 use Rattle.laws.specs.Lists.{front}
@@ -82,15 +82,15 @@ number-above (negsuc n) h = absurd (omega arith)
 pub number-small : (r : Refusal) → numberOf r < 100
 number-small BandCount = omega arith
 number-small NotFinite = omega arith
-number-small NoReading = omega arith
+number-small ReadingMissing = omega arith
 number-small BandRange = omega arith
-number-small Background = omega arith
+number-small BackgroundTooNear = omega arith
 number-small DerivedRange = omega arith
 number-small TimeRange = omega arith
-number-small NotBetter = omega arith
+number-small TargetNotBetter = omega arith
 number-small TargetRange = omega arith
-number-small NoRoom = omega arith
-number-small NotRequest = omega arith
+number-small OutputTooSmall = omega arith
+number-small NotARequest = omega arith
 number-small SpecimenCount = omega arith
 number-small PriceRange = omega arith
 number-small OtherBands = omega arith

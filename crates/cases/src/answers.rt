@@ -32,11 +32,11 @@ fn lift(case: Case, tenths: &[i32], sets: &mut [u16], out: &mut [i32]) -> u32 {
 // Makes the call of a case that has no list.
 fn call_alone(case: Case, out: &mut [i32; 17]) -> u32 {
     match natural(case, 0) {
-        2 => desk_c::imbrolt_reading(natural(case, 1), float(case, 2), out),
+        2 => desk_c::imbrolt_take_reading(natural(case, 1), float(case, 2), out),
         4 => take_time(float(case, 1), out),
-        5 => desk_c::imbrolt_field(signed(case, 1), signed(case, 2), out),
-        6 => desk_c::imbrolt_laboratory(signed(case, 1), signed(case, 2), out),
-        7 => desk_c::imbrolt_raw(
+        5 => desk_c::imbrolt_correct_field(signed(case, 1), signed(case, 2), out),
+        6 => desk_c::imbrolt_correct_laboratory(signed(case, 1), signed(case, 2), out),
+        7 => desk_c::imbrolt_standardized(
             float(case, 1),
             float(case, 2),
             float(case, 3),

@@ -13,3 +13,4 @@ pub mod Registers
 pub mod Refusals
 pub mod Answers
 pub mod Calls
+pub mod Version

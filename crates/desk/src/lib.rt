@@ -1,4 +1,4 @@
-// The open library of the rating desk: every call of document 01, and document 02's register of request keys.
+// The open library of the rating desk: every call of document 01, document 02's register of request keys, and the version.
 //
 // No call has a `requires`: each answers every input, or refuses it with the one number that the documents give. Its promise
 // is an equation with a definition of `specs/`, where the definitions stand gathered in the documents' order.
@@ -8,6 +8,7 @@ mod lines;
 mod measured;
 mod ratings;
 mod registers;
+mod versions;
 
 pub use covers::cover;
 pub use covers::grade;
@@ -26,3 +27,4 @@ pub use registers::bill;
 pub use registers::close;
 pub use registers::open_register;
 pub use registers::owed;
+pub use versions::version;

@@ -13,7 +13,7 @@ use Rattle.quantity.specs.Quantities.{bandOf}
 use Rattle.quantity.specs.Refusals.{numberOf}
 use Rattle.quantity.specs.declared.quantities.BandSet.{BandSet}
 use Rattle.quantity.specs.declared.refusals.Refusal.{Refusal}
-use Rattle.quantity.specs.declared.refusals.Refusal.the-variants.{NotBetter, TargetRange, NoRoom}
+use Rattle.quantity.specs.declared.refusals.Refusal.the-variants.{TargetNotBetter, TargetRange, OutputTooSmall}
 use Rattle.kinds.specs.declared.kinds.Kind.{Kind}
 use Rattle.kinds.specs.declared.kinds.Named.{Named}
 use Rattle.kinds.specs.declared.kinds.Named.the-variants.{Is, Unknown}
@@ -46,8 +46,8 @@ module _ (k : Kind) (s : BandSet) (t : ℤ) where
   alone m n = by (ratedOf k s)
     where
       tests : (a b x y : Bool) (c : ℕ)
-          → returned (countAnswer (tested a (tested b (tested x (Count c) (Refused NoRoom)) (Refused NotBetter)) (Refused TargetRange))) 0
-          ≡ returned (countAnswer (tested a (tested b (tested y (Count c) (Refused NoRoom)) (Refused NotBetter)) (Refused TargetRange))) 0
+          → returned (countAnswer (tested a (tested b (tested x (Count c) (Refused OutputTooSmall)) (Refused TargetNotBetter)) (Refused TargetRange))) 0
+          ≡ returned (countAnswer (tested a (tested b (tested y (Count c) (Refused OutputTooSmall)) (Refused TargetNotBetter)) (Refused TargetRange))) 0
       tests false b x y c = refl
       tests true false x y c = refl
       tests true true true true c = refl

@@ -9,7 +9,7 @@ use borrow.Author.Tests.{le-leb, lt-leb}
 use lib.ListN.{length, set}
 use Rattle.quantity.specs.Refusals.{numberOf}
 use Rattle.quantity.specs.declared.refusals.Refusal.{Refusal}
-use Rattle.quantity.specs.declared.refusals.Refusal.the-variants.{NoRoom}
+use Rattle.quantity.specs.declared.refusals.Refusal.the-variants.{OutputTooSmall}
 use Rattle.line.specs.declared.lines.Wrote.{Wrote}
 use Rattle.line.specs.declared.lines.Wrote.the-variants.{Bytes, Refused}
 use Rattle.line.specs.declared.blocks.Progress.{Progress}
@@ -48,7 +48,7 @@ module _ (line out : List ℕ) (at : ℕ) (wrote : List ℕ) where
       (w .0, (rw (lt-leb 1 (length wrote) h) refl, w .1))
     where
       go : (b : Bool) (n : ℕ)
-          → (10 ≡ returned (wroteAnswer (cond b (Bytes n) (Refused NoRoom))) (length wrote)) × (wrote ≡ held (wroteAnswer (cond b (Bytes n) (Refused NoRoom))) wrote)
+          → (10 ≡ returned (wroteAnswer (cond b (Bytes n) (Refused OutputTooSmall))) (length wrote)) × (wrote ≡ held (wroteAnswer (cond b (Bytes n) (Refused OutputTooSmall))) wrote)
       go true n = no-place (n ∷ []) wrote h
       go false n = (refl, refl)
 

@@ -12,7 +12,7 @@ use Rattle.laws.specs.Lists.{front}
 use Rattle.quantity.specs.Answers.Answer.{numbers}
 use Rattle.laws.specs.Extremes.{one-if}
 
--- imbrolt_line: the length of the answer line
+-- imbrolt_answer_line: the length of the answer line
 unfoldable pub lineAnswer : List ℕ → List ℕ → ℕ → Answer ℕ
 lineAnswer line out at = wroteAnswer (wroteOf out at (answerOf line))
 
@@ -25,7 +25,7 @@ abbrev pub isSet : ℕ → Bool
 isSet zero = false
 isSet (suc n) = true
 
--- imbrolt_block: bytes used, bytes written, and the flag for the next call
+-- imbrolt_answer_block: bytes used, bytes written, and the flag for the next call
 abbrev pub blockNumbers : Block → List ℕ
 blockNumbers b = b .used ∷ length (b .text) ∷ one-if (b .skipping) ∷ []
 

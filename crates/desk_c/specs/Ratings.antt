@@ -20,7 +20,7 @@ abbrev pub byKind : Named → (Kind → Answer ℤ) → Answer ℤ
 byKind (Is kind) answer = answer kind
 byKind Unknown answer = refused 1
 
--- imbrolt_reading
+-- imbrolt_take_reading
 unfoldable pub readingAnswer : ℕ → Float → Answer ℤ
 readingAnswer mark x = takenAnswer (takenOf (readingFrom mark x))
 

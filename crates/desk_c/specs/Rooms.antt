@@ -19,15 +19,15 @@ use Rattle.intake.specs.Taken.{takenAnswer}
 use Rattle.measurement.specs.Lists.{intakeAnswer}
 use Rattle.door.specs.Given.{levelAnswer}
 
--- imbrolt_field
+-- imbrolt_correct_field
 unfoldable pub fieldAnswer : ℤ → ℤ → Answer ℤ
 fieldAnswer total background = takenAnswer (fieldOf total background)
 
--- imbrolt_laboratory
+-- imbrolt_correct_laboratory
 unfoldable pub laboratoryAnswer : ℤ → ℤ → Answer ℤ
 laboratoryAnswer total background = levelAnswer (laboratoryOf total background)
 
--- imbrolt_raw
+-- imbrolt_standardized
 unfoldable pub rawAnswer : RawBand → Answer ℤ
 rawAnswer raw = takenAnswer (rawOf raw)
 

@@ -9,7 +9,12 @@ ghost use Rattle.laws.specs.Extremes.{one-if};
 
 // The answer to one line, from place `at` of `out`, and its length.
 #[no_mangle]
-pub extern "C" fn imbrolt_line(line: &[u8], out: &mut [u8], at: usize, wrote: &mut [u64]) -> u32
+pub extern "C" fn imbrolt_answer_line(
+    line: &[u8],
+    out: &mut [u8],
+    at: usize,
+    wrote: &mut [u64],
+) -> u32
     ensures { λ r. ⌜ r ≡ returned (lineAnswer (now (line .entry)) (now (out .entry)) at) (length (now (wrote .entry))) ⌝ }
     ensures { λ _. ⌜ now (out .exit) ≡ lineHeld (now (line .entry)) (now (out .entry)) at (length (now (wrote .entry))) ⌝ }
     ensures { λ _. ⌜ now (wrote .exit) ≡ held (lineAnswer (now (line .entry)) (now (out .entry)) at) (now (wrote .entry)) ⌝ }
@@ -44,7 +49,7 @@ fn bit_of(flag: bool) -> u64
 // The answers to the whole lines of a part of a run for which `out` has room: bytes used, bytes written, and the flag to hand
 // to the next call.
 #[no_mangle]
-pub extern "C" fn imbrolt_block(
+pub extern "C" fn imbrolt_answer_block(
     input: &[u8],
     skipping: u32,
     last: u32,

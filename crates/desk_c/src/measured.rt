@@ -18,7 +18,7 @@ ghost use Rattle.desk_c.specs.Rooms.{fieldAnswer, laboratoryAnswer, rawA
 
 // A level corrected by the field rule, and its mark.
 #[no_mangle]
-pub extern "C" fn imbrolt_field(total: i32, background: i32, out: &mut [i32]) -> u32
+pub extern "C" fn imbrolt_correct_field(total: i32, background: i32, out: &mut [i32]) -> u32
     ensures { λ r. ⌜ r ≡ returned (fieldAnswer total background) (length (now (out .entry))) ⌝ }
     ensures { λ _. ⌜ now (out .exit) ≡ held (fieldAnswer total background) (now (out .entry)) ⌝ }
 {
@@ -27,7 +27,7 @@ pub extern "C" fn imbrolt_field(total: i32, background: i32, out: &mut [i32]) ->
 
 // A level corrected by the laboratory rule.
 #[no_mangle]
-pub extern "C" fn imbrolt_laboratory(total: i32, background: i32, out: &mut [i32]) -> u32
+pub extern "C" fn imbrolt_correct_laboratory(total: i32, background: i32, out: &mut [i32]) -> u32
     ensures { λ r. ⌜ r ≡ returned (laboratoryAnswer total background) (length (now (out .entry))) ⌝ }
     ensures { λ _. ⌜ now (out .exit) ≡ held (laboratoryAnswer total background) (now (out .entry)) ⌝ }
 {
@@ -39,7 +39,7 @@ pub extern "C" fn imbrolt_laboratory(total: i32, background: i32, out: &mut [i32
 
 // The standardized level difference of a raw band, and its mark.
 #[no_mangle]
-pub extern "C" fn imbrolt_raw(
+pub extern "C" fn imbrolt_standardized(
     source: f32,
     receiving: f32,
     background: f32,

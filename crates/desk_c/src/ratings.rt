@@ -13,7 +13,7 @@ ghost use Rattle.desk_c.specs.Ratings.{readingAnswer, rateAnswer, readin
 
 // One reading: its tenths and its mark.
 #[no_mangle]
-pub extern "C" fn imbrolt_reading(mark: u32, value: f32, out: &mut [i32]) -> u32
+pub extern "C" fn imbrolt_take_reading(mark: u32, value: f32, out: &mut [i32]) -> u32
     ensures { λ r. ⌜ r ≡ returned (readingAnswer mark value) (length (now (out .entry))) ⌝ }
     ensures { λ _. ⌜ now (out .exit) ≡ held (readingAnswer mark value) (now (out .entry)) ⌝ }
 {

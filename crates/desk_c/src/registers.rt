@@ -12,7 +12,7 @@ ghost use Rattle.till.specs.Registers.{callGiven, billAnswer, billLeft, owedGiv
 
 // A register without entries.
 #[no_mangle]
-pub extern "C" fn imbrolt_register_open(register: &mut Register) -> u32
+pub extern "C" fn imbrolt_open_register(register: &mut Register) -> u32
     ensures { λ r. ⌜ r ≡ 0 ⌝ }
     ensures { λ _. ⌜ now (register .exit) ≡ opened ⌝ }
 {

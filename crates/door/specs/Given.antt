@@ -12,7 +12,7 @@ use Rattle.rating.specs.declared.sheets.Rated.the-variants as rated
 use Rattle.products.specs.declared.grades.Graded.{Graded}
 use Rattle.products.specs.declared.grades.Graded.the-variants as graded
 
--- imbrolt_laboratory: the level alone, which is never a limit
+-- imbrolt_correct_laboratory: the level alone, which is never a limit
 abbrev pub levelAnswer : Taken → Answer ℤ
 levelAnswer (taken.Value t limit) = numbers (t .0 ∷ [])
 levelAnswer (taken.Refused r) = refused (numberOf r)

@@ -8,7 +8,7 @@ use lib.Ieee.{binary32, ofBits, ofFields, odd}
 use lib.Count.{trailingZeros}
 use Rattle.quantity.specs.Quantities.{inRange}
 use Rattle.quantity.specs.declared.quantities.Reading.the-variants.{Level, Limit, Missing}
-use Rattle.quantity.specs.declared.refusals.Refusal.the-variants.{NotFinite, NoReading, BandRange, TimeRange}
+use Rattle.quantity.specs.declared.refusals.Refusal.the-variants.{NotFinite, ReadingMissing, BandRange, TimeRange}
 use Rattle.intake.specs.declared.singles.Taken.{Taken}
 use Rattle.intake.specs.declared.singles.Taken.the-variants.{Value, Refused}
 use Rattle.intake.specs.declared.singles.Time.{Time}
@@ -45,7 +45,7 @@ pub record Ends : Type 0 where
   pub infinite : level 2139095040 ≡ Refused NotFinite
   pub infinite-below : level 4286578688 ≡ Refused NotFinite
   pub no-number : level 2143289344 ≡ Refused NotFinite
-  pub missing : takenOf Missing ≡ Refused NoReading
+  pub missing : takenOf Missing ≡ Refused ReadingMissing
   pub limit : takenOf (Limit (ofBits binary32 1048576000)) ≡ Value (record { 0 = pos 3 }) true
 
 pub ends : Ends

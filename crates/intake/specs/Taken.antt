@@ -10,7 +10,7 @@ use Rattle.quantity.specs.Answers.{Answer, flag}
 use Rattle.quantity.specs.Answers.Answer.{refused, numbers}
 use Rattle.quantity.specs.declared.quantities.Reading.{Reading}
 use Rattle.quantity.specs.declared.quantities.Reading.the-variants.{Level, Limit, Missing}
-use Rattle.quantity.specs.declared.refusals.Refusal.the-variants.{NotFinite, NoReading, BandRange}
+use Rattle.quantity.specs.declared.refusals.Refusal.the-variants.{NotFinite, ReadingMissing, BandRange}
 use Rattle.intake.specs.declared.singles.Taken.{Taken}
 use Rattle.intake.specs.declared.singles.Taken.the-variants.{Value, Refused}
 use Rattle.intake.specs.Nearest.{nearest}
@@ -30,7 +30,7 @@ unfoldable pub takenOf : Reading → Taken
 unfolding floatTaken
 takenOf (Level x) = floatTaken false x
 takenOf (Limit x) = floatTaken true x
-takenOf Missing = Refused NoReading
+takenOf Missing = Refused ReadingMissing
 
 -- in the paper's numbers: the value in tenths and its mark, or the refusal
 abbrev pub takenAnswer : Taken → Answer ℤ

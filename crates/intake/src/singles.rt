@@ -48,7 +48,7 @@ pub fn take_reading(reading: Reading) -> Taken
     match reading {
         Reading::Level(x) => take_float(x, false),
         Reading::Limit(x) => take_float(x, true),
-        Reading::Missing => Taken::Refused(Refusal::NoReading),
+        Reading::Missing => Taken::Refused(Refusal::ReadingMissing),
     }
 }
 

@@ -16,7 +16,7 @@ use Rattle.quantity.specs.Keys.{keyShape}
 use Rattle.quantity.specs.Quantities.{priced}
 use Rattle.quantity.specs.declared.quantities.BandSet.{BandSet}
 use Rattle.quantity.specs.declared.quantities.Fen.{Fen}
-use Rattle.quantity.specs.declared.refusals.Refusal.the-variants.{NotRequest, PriceRange, OtherBands, RegisterFull, RegisterDamaged}
+use Rattle.quantity.specs.declared.refusals.Refusal.the-variants.{NotARequest, PriceRange, OtherBands, RegisterFull, RegisterDamaged}
 use Rattle.kinds.specs.declared.kinds.Kind.{Kind}
 use Rattle.kinds.specs.declared.kinds.Named.the-variants.{Is}
 use Rattle.kinds.specs.Kinds.{bandsOf, kindOf, kindNumber}
@@ -81,7 +81,7 @@ module _ (r : Register) (customer : ℕ) (key : List ℕ) (k : Kind) (s t : Band
   due-past : dueOf r x ≡ dueOf r y
   unfolding dueOf
   due-past =
-      ap (λ (d : Due). cond (sound r) (cond (keyShape key) d (refuse NotRequest)) (refuse RegisterDamaged))
+      ap (λ (d : Due). cond (sound r) (cond (keyShape key) d (refuse NotARequest)) (refuse RegisterDamaged))
       (rated-past (ratedOf k s) refl ∙ ap (λ (d : Rated). ratedDue d r y) (past-length k s t same))
 
   pub bill-past : billedOf r x ≡ billedOf r y

@@ -14,7 +14,7 @@ use Rattle.laws.proofs.Sums.{sum-same}
 use Rattle.laws.proofs.Tests.{never}
 use Rattle.quantity.specs.Keys.{keyShape}
 use Rattle.quantity.specs.Quantities.{priced}
-use Rattle.quantity.specs.declared.refusals.Refusal.the-variants.{NotRequest, PriceRange, OtherBands, RegisterFull, RegisterDamaged}
+use Rattle.quantity.specs.declared.refusals.Refusal.the-variants.{NotARequest, PriceRange, OtherBands, RegisterFull, RegisterDamaged}
 use Rattle.laws.specs.Tests.{allTo, anyTo, bit}
 use Rattle.laws.proofs.Ranges.{all-same, any-same}
 use Rattle.kinds.specs.declared.kinds.Kind.{Kind}
@@ -189,7 +189,7 @@ module _ {r s : Register} (a : SameRegister r s) where
   pub due-same : (x : Call) → dueOf r x ≡ dueOf s x
   unfolding dueOf
   due-same x = λ i.
-      cond (sound-same i) (cond (keyShape (x .key)) (rated-due-same (ratedOf (x .kind) (x .set)) x i) (refuse NotRequest)) (refuse RegisterDamaged)
+      cond (sound-same i) (cond (keyShape (x .key)) (rated-due-same (ratedOf (x .kind) (x .set)) x i) (refuse NotARequest)) (refuse RegisterDamaged)
 
   -- the answers are the same
   pub billed-same : (x : Call) → billedOf r x ≡ billedOf s x

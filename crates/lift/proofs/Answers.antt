@@ -18,7 +18,7 @@ use Rattle.quantity.specs.Quantities.{bandOf}
 use Rattle.quantity.specs.declared.quantities.BandSet.{BandSet}
 use Rattle.quantity.specs.declared.quantities.Decibels.{Decibels}
 use Rattle.quantity.specs.declared.refusals.Refusal.{Refusal}
-use Rattle.quantity.specs.declared.refusals.Refusal.the-variants.{BandCount, BandRange, NotBetter, TargetRange, NoRoom}
+use Rattle.quantity.specs.declared.refusals.Refusal.the-variants.{BandCount, BandRange, TargetNotBetter, TargetRange, OutputTooSmall}
 use Rattle.curve.specs.Bands.{accepted}
 use Rattle.curve.specs.Levels.{at, levelBy, Entries, Countable}
 use Rattle.curve.proofs.Searched.{count-most}
@@ -74,11 +74,11 @@ module _ (k : Kind) (s : BandSet) (t r : ℤ) (before : List ℕ) where
   unfolding countOf
   out-of-targets e = record { answer = rw e; buffer = refl }
 
-  pub not-better : inTargets t ≡ true → betterBy (airborne k) t r ≡ false → RatedIs k s t r before (Refused NotBetter) before
+  pub not-better : inTargets t ≡ true → betterBy (airborne k) t r ≡ false → RatedIs k s t r before (Refused TargetNotBetter) before
   unfolding countOf
   not-better e d = record { answer = rw (e, d); buffer = refl }
 
-  pub no-room : inTargets t ≡ true → betterBy (airborne k) t r ≡ true → room < placesOf k → RatedIs k s t r before (Refused NoRoom) before
+  pub no-room : inTargets t ≡ true → betterBy (airborne k) t r ≡ true → room < placesOf k → RatedIs k s t r before (Refused OutputTooSmall) before
   unfolding countOf
   no-room e d h = record { answer = rw (e, d, lt-leb (placesOf k) room h); buffer = refl }
 
@@ -188,7 +188,7 @@ pub count-small : (k : Kind) (s : BandSet) (t : ℤ) (room n : ℕ) → answerOf
 unfolding answerOf countOf
 count-small k s t room n e = by (ratedOf k s) e
   where
-    tests : (a b x : Bool) → tested a (tested b (tested x (Count (length (liftList k (bandOf s) t))) (Refused NoRoom)) (Refused NotBetter)) (Refused TargetRange) ≡ Count n
+    tests : (a b x : Bool) → tested a (tested b (tested x (Count (length (liftList k (bandOf s) t))) (Refused OutputTooSmall)) (Refused TargetNotBetter)) (Refused TargetRange) ≡ Count n
         → n ≤ 696
     tests false b x h = clash cc
     tests true false x h = clash cc

@@ -9,7 +9,7 @@ use lib.IntN.{ℤ}
 use lib.ListN.{length}
 use Rattle.quantity.specs.Quantities.{bandOf}
 use Rattle.quantity.specs.declared.quantities.BandSet.{BandSet}
-use Rattle.quantity.specs.declared.refusals.Refusal.the-variants.{BandCount, BandRange, NotBetter, TargetRange, NoRoom}
+use Rattle.quantity.specs.declared.refusals.Refusal.the-variants.{BandCount, BandRange, TargetNotBetter, TargetRange, OutputTooSmall}
 use Rattle.curve.specs.Bands.{accepted}
 use Rattle.laws.specs.Tests.{allTo, bit}
 use Rattle.kinds.specs.declared.kinds.Kind.{Kind}
@@ -51,7 +51,7 @@ module _ (k : Kind) (s t : BandSet) (target : ℤ) (room : ℕ) (len : s .len �
       let r = rating-same k (bandOf s) (bandOf t) values in
       let l = list-past k (bandOf s) (bandOf t) target values in
       λ i. tested (inTargets target)
-      (tested (betterBy (airborne k) target (r i)) (tested (leb (placesOf k) room) (Count (length (l i))) (Refused NoRoom)) (Refused NotBetter))
+      (tested (betterBy (airborne k) target (r i)) (tested (leb (placesOf k) room) (Count (length (l i))) (Refused OutputTooSmall)) (Refused TargetNotBetter))
       (Refused TargetRange)
 
   abbrev answer : BandSet → Bool → Bool → Lifted

@@ -12,7 +12,7 @@ use lib.ListN.{length, getD, drop, List·getD-append}
 use lib.Seq.{getD-append-add, getD-drop}
 use Rattle.quantity.specs.Quantities.{bandOf}
 use Rattle.quantity.specs.declared.quantities.BandSet.{BandSet}
-use Rattle.quantity.specs.declared.refusals.Refusal.the-variants.{NotBetter, TargetRange, NoRoom}
+use Rattle.quantity.specs.declared.refusals.Refusal.the-variants.{TargetNotBetter, TargetRange, OutputTooSmall}
 use Rattle.laws.specs.Tests.{allTo}
 use Rattle.kinds.specs.declared.kinds.Kind.{Kind}
 use Rattle.kinds.specs.Kinds.{airborne, bandsOf}
@@ -90,7 +90,7 @@ module _ (k : Kind) (s : BandSet) (t : ℤ) (lent : List ℕ) where
   list = liftList k (bandOf s) t
 
   counted : (a b c : Bool) (n : ℕ)
-      → Count n ≡ tested a (tested b (tested c (Count (length list)) (Refused NoRoom)) (Refused NotBetter)) (Refused TargetRange) → n ≡ length list
+      → Count n ≡ tested a (tested b (tested c (Count (length list)) (Refused OutputTooSmall)) (Refused TargetNotBetter)) (Refused TargetRange) → n ≡ length list
   counted true true true n e = cc
   counted true true false n e = cc
   counted true false c n e = cc

@@ -14,7 +14,7 @@ use Rattle.quantity.specs.Refusals.{numberOf}
 use Rattle.quantity.specs.Answers.{Answer}
 use Rattle.quantity.specs.Answers.Answer.{refused, numbers}
 use Rattle.quantity.specs.declared.quantities.BandSet.{BandSet}
-use Rattle.quantity.specs.declared.refusals.Refusal.the-variants.{NotBetter, TargetRange, NoRoom}
+use Rattle.quantity.specs.declared.refusals.Refusal.the-variants.{TargetNotBetter, TargetRange, OutputTooSmall}
 use Rattle.kinds.specs.declared.kinds.Kind.{Kind}
 use Rattle.kinds.specs.declared.kinds.Kind.the-variants.{A3, A1, I3, I1}
 use Rattle.kinds.specs.Kinds.{airborne}
@@ -46,8 +46,8 @@ unfoldable pub countOf : Kind → BandSet → ℤ → ℕ → ℤ → Lifted
 countOf k s target room rating =
     tested (inTargets target)
     (tested (betterBy (airborne k) target rating)
-    (tested (leb (placesOf k) room) (Count (length (liftList k (bandOf s) target))) (Refused NoRoom))
-    (Refused NotBetter))
+    (tested (leb (placesOf k) room) (Count (length (liftList k (bandOf s) target))) (Refused OutputTooSmall))
+    (Refused TargetNotBetter))
     (Refused TargetRange)
 
 abbrev pub answerBy : Rated → Kind → BandSet → ℤ → ℕ → Lifted

@@ -104,10 +104,10 @@ fn lift_rated(
     }
     let n = numbers_of(kind);
     if !better(n.airborne, target, rating) {
-        return Lifted::Refused(Refusal::NotBetter);
+        return Lifted::Refused(Refusal::TargetNotBetter);
     }
     if out.len() < places(kind) {
-        return Lifted::Refused(Refusal::NoRoom);
+        return Lifted::Refused(Refusal::OutputTooSmall);
     }
     Lifted::Count(list(kind, set, target, out))
 }

@@ -10,7 +10,7 @@ use borrow.Rule.Slice.PartMut.{putMid, midOf}
 use lib.Dec.{leb, eqb}
 use lib.ListN.{length, take, drop, length-drop, drop-of-length-le}
 use lib.Seq.{take-all, drop-drop}
-use Rattle.quantity.specs.declared.refusals.Refusal.the-variants.{NoRoom}
+use Rattle.quantity.specs.declared.refusals.Refusal.the-variants.{OutputTooSmall}
 use Rattle.kinds.specs.declared.kinds.Kind.{Kind}
 use Rattle.reply.specs.declared.requests.Reply.{Reply}
 use Rattle.line.specs.declared.lines.Wrote.the-variants as wrote
@@ -26,10 +26,10 @@ use Rattle.request.proofs.Wholes.{RequestAt, RequestGood, request-ok, text-leng
 use Rattle.reply.proofs.Replies.{reply-none}
 
 module _ (out : List ℕ) (at : ℕ) (text : List ℕ) where
-  pub no-room : length out < at + length text → (wrote.Refused NoRoom ≡ wroteOf out at text) × (out ≡ placed out at text)
+  pub no-room : length out < at + length text → (wrote.Refused OutputTooSmall ≡ wroteOf out at text) × (out ≡ placed out at text)
   unfolding wroteOf placed fitsAt
   no-room h = (
-    sym (ap (λ (t : Bool). cond t (wrote.Bytes (length text)) (wrote.Refused NoRoom)) (lt-leb (at + length text) (length out) h)),
+    sym (ap (λ (t : Bool). cond t (wrote.Bytes (length text)) (wrote.Refused OutputTooSmall)) (lt-leb (at + length text) (length out) h)),
     sym (ap (λ (t : Bool). cond t (take at out ++ (text ++ drop (at + length text) out)) out) (lt-leb (at + length text) (length out) h)),
   )
 
@@ -37,7 +37,7 @@ module _ (out : List ℕ) (at : ℕ) (text : List ℕ) where
     pub room-wrote : (n : ℕ) → n ≡ length text → wrote.Bytes n ≡ wroteOf out at text
     unfolding wroteOf fitsAt
     room-wrote n e =
-        ap wrote.Bytes e ∙ sym (ap (λ (t : Bool). cond t (wrote.Bytes (length text)) (wrote.Refused NoRoom)) (le-leb (at + length text) (length out) h))
+        ap wrote.Bytes e ∙ sym (ap (λ (t : Bool). cond t (wrote.Bytes (length text)) (wrote.Refused OutputTooSmall)) (le-leb (at + length text) (length out) h))
 
     mid-is : midOf at (length out - at) out ≡ drop at out
     mid-is = take-all (length out - at) (drop at out) (omega (arith, length-drop at out))

@@ -10,7 +10,7 @@ use lib.ListN.{length, take, drop, length-drop, drop-of-length-le, take-append-d
 use lib.Seq.{drop-cons}
 use Rattle.quantity.specs.Keys.{byteAt}
 use Rattle.quantity.specs.declared.refusals.Refusal.{Refusal}
-use Rattle.quantity.specs.declared.refusals.Refusal.the-variants.{NoRoom}
+use Rattle.quantity.specs.declared.refusals.Refusal.the-variants.{OutputTooSmall}
 use Rattle.reply.specs.declared.requests.Reply.{Reply}
 use Rattle.line.specs.declared.lines.Wrote.{Wrote}
 use Rattle.line.specs.declared.lines.Wrote.the-variants as wrote
@@ -262,9 +262,9 @@ module _ (s : List ℕ) (at : ℕ) (out : List ℕ) (w : ℕ) (skipping last : B
       some : step ≡ cond (leb (length text) (length out - w)) given still
       some = ask-step ∙ rw (ne-eqb (p .next) at z)
 
-      fitting : (t : Bool) → leb (w + length text) (length out) ≡ t → x ≡ cond t (wrote.Bytes (length text)) (wrote.Refused NoRoom)
+      fitting : (t : Bool) → leb (w + length text) (length out) ≡ t → x ≡ cond t (wrote.Bytes (length text)) (wrote.Refused OutputTooSmall)
       unfolding wroteOf fitsAt
-      fitting t h = wrote-is ∙ ap (λ (b : Bool). cond b (wrote.Bytes (length text)) (wrote.Refused NoRoom)) h
+      fitting t h = wrote-is ∙ ap (λ (b : Bool). cond b (wrote.Bytes (length text)) (wrote.Refused OutputTooSmall)) h
 
       placing : (t : Bool) → leb (w + length text) (length out) ≡ t → after ≡ cond t (take w out ++ (text ++ drop (w + length text) out)) out
       unfolding placed fitsAt
@@ -290,7 +290,7 @@ module _ (s : List ℕ) (at : ℕ) (out : List ℕ) (w : ℕ) (skipping last : B
           go : (t : Bool) → leb (w + length text) (length out) ≡ t
               → (w + n ≤ length out) × Turned step out w (record { next = p .next; wrote = w + n; skipping = p .skipping }) after
           go false h =
-              let q : wrote.Bytes n ≡ wrote.Refused NoRoom = sym f ∙ fitting false h in
+              let q : wrote.Bytes n ≡ wrote.Refused OutputTooSmall = sym f ∙ fitting false h in
               clash cc
           go true h =
               let fit : w + length text ≤ length out = leb-true (w + length text) (length out) h in

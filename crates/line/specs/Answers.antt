@@ -7,7 +7,7 @@ use lib.ListN.{length, take, drop}
 use Rattle.quantity.specs.Refusals.{numberOf}
 use Rattle.quantity.specs.Answers.{Answer}
 use Rattle.quantity.specs.Answers.Answer.{refused, numbers}
-use Rattle.quantity.specs.declared.refusals.Refusal.the-variants.{NoRoom}
+use Rattle.quantity.specs.declared.refusals.Refusal.the-variants.{OutputTooSmall}
 use Rattle.answer.specs.Texts.{lineFeed}
 use Rattle.reply.specs.Answers.{answerOf}
 use Rattle.line.specs.declared.lines.Wrote.{Wrote}
@@ -39,7 +39,7 @@ unfoldable pub placed : List ℕ → ℕ → List ℕ → List ℕ
 placed out at text = cond (fitsAt out at text) (take at out ++ (text ++ drop (at + length text) out)) out
 
 unfoldable pub wroteOf : List ℕ → ℕ → List ℕ → Wrote
-wroteOf out at text = cond (fitsAt out at text) (wrote.Bytes (length text)) (wrote.Refused NoRoom)
+wroteOf out at text = cond (fitsAt out at text) (wrote.Bytes (length text)) (wrote.Refused OutputTooSmall)
 
 -- in the paper's numbers: the length of the answer line, or the refusal
 abbrev pub wroteAnswer : Wrote → Answer ℕ

@@ -61,10 +61,10 @@ pub fn answer_at(s: &[u8], reply: Reply, out: &mut [u8], at: usize) -> Wrote
 {
     let n = reply_len(s, reply);
     if out.len() < at {
-        return Wrote::Refused(Refusal::NoRoom);
+        return Wrote::Refused(Refusal::OutputTooSmall);
     }
     if out.len() - at < n {
-        return Wrote::Refused(Refusal::NoRoom);
+        return Wrote::Refused(Refusal::OutputTooSmall);
     }
     put_reply(s, reply, &mut out[at..]);
     Wrote::Bytes(n)

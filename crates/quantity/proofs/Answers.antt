@@ -7,7 +7,7 @@ use Prim.Native.Nat.{ℕ, zero, suc}
 use lib.IntN.{ℤ, pos, negsuc}
 use lib.ListN.{getD}
 use Rattle.quantity.specs.declared.refusals.Refusal.{Refusal}
-use Rattle.quantity.specs.declared.refusals.Refusal.the-variants.{BandCount, NotFinite, NoReading, BandRange, Background, DerivedRange, TimeRange, NotBetter, TargetRange, NoRoom, NotRequest, SpecimenCount, PriceRange, OtherBands, RegisterFull, RegisterDamaged}
+use Rattle.quantity.specs.declared.refusals.Refusal.the-variants.{BandCount, NotFinite, ReadingMissing, BandRange, BackgroundTooNear, DerivedRange, TimeRange, TargetNotBetter, TargetRange, OutputTooSmall, NotARequest, SpecimenCount, PriceRange, OtherBands, RegisterFull, RegisterDamaged}
 use Rattle.quantity.specs.Refusals.{numberOf}
 use Rattle.quantity.specs.Answers.{flag}
 use Rattle.quantity.specs.Answers.Answer.{refused, numbers}
@@ -16,7 +16,7 @@ use Rattle.laws.proofs.Tests.{clash}
 -- the refusals by their numbers, from 0; at a number that none has, any
 cases : List Refusal
 cases =
-    BandCount ∷ BandCount ∷ NotFinite ∷ NoReading ∷ BandRange ∷ Background ∷ DerivedRange ∷ TimeRange ∷ NotBetter ∷ TargetRange ∷ NoRoom ∷ NotRequest
+    BandCount ∷ BandCount ∷ NotFinite ∷ ReadingMissing ∷ BandRange ∷ BackgroundTooNear ∷ DerivedRange ∷ TimeRange ∷ TargetNotBetter ∷ TargetRange ∷ OutputTooSmall ∷ NotARequest
     ∷ SpecimenCount ∷ BandCount ∷ BandCount ∷ BandCount ∷ PriceRange ∷ OtherBands ∷ RegisterFull ∷ RegisterDamaged ∷ []
 
 withNumber : ℕ → Refusal
@@ -26,15 +26,15 @@ with-number : (r : Refusal) → withNumber (numberOf r) ≡ r
 unfolding withNumber cases
 with-number BandCount = refl
 with-number NotFinite = refl
-with-number NoReading = refl
+with-number ReadingMissing = refl
 with-number BandRange = refl
-with-number Background = refl
+with-number BackgroundTooNear = refl
 with-number DerivedRange = refl
 with-number TimeRange = refl
-with-number NotBetter = refl
+with-number TargetNotBetter = refl
 with-number TargetRange = refl
-with-number NoRoom = refl
-with-number NotRequest = refl
+with-number OutputTooSmall = refl
+with-number NotARequest = refl
 with-number SpecimenCount = refl
 with-number PriceRange = refl
 with-number OtherBands = refl

@@ -2,22 +2,22 @@
 -- refusal of two.
 use Prim.Native.Nat.{ℕ}
 use Rattle.quantity.specs.declared.refusals.Refusal.{Refusal}
-use Rattle.quantity.specs.declared.refusals.Refusal.the-variants.{BandCount, NotFinite, NoReading, BandRange, Background, DerivedRange, TimeRange, NotBetter, TargetRange, NoRoom, NotRequest, SpecimenCount, PriceRange, OtherBands, RegisterFull, RegisterDamaged}
+use Rattle.quantity.specs.declared.refusals.Refusal.the-variants.{BandCount, NotFinite, ReadingMissing, BandRange, BackgroundTooNear, DerivedRange, TimeRange, TargetNotBetter, TargetRange, OutputTooSmall, NotARequest, SpecimenCount, PriceRange, OtherBands, RegisterFull, RegisterDamaged}
 use Rattle.quantity.specs.declared.refusals.Outcome.{Outcome}
 use Rattle.quantity.specs.declared.refusals.Outcome.the-variants.{Accepted, Refused}
 
 abbrev pub numberOf : Refusal → ℕ
 numberOf BandCount = 1
 numberOf NotFinite = 2
-numberOf NoReading = 3
+numberOf ReadingMissing = 3
 numberOf BandRange = 4
-numberOf Background = 5
+numberOf BackgroundTooNear = 5
 numberOf DerivedRange = 6
 numberOf TimeRange = 7
-numberOf NotBetter = 8
+numberOf TargetNotBetter = 8
 numberOf TargetRange = 9
-numberOf NoRoom = 10
-numberOf NotRequest = 11
+numberOf OutputTooSmall = 10
+numberOf NotARequest = 11
 numberOf SpecimenCount = 12
 numberOf PriceRange = 16
 numberOf OtherBands = 17

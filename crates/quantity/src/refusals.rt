@@ -8,23 +8,23 @@ pub enum Refusal {
     // 2: a float is NaN or infinite
     NotFinite,
     // 3: a reading is missing
-    NoReading,
+    ReadingMissing,
     // 4: a band value is out of range
     BandRange,
     // 5: laboratory rule, total less than 6.0 dB above the background
-    Background,
+    BackgroundTooNear,
     // 6: a derived value is out of range
     DerivedRange,
     // 7: the reverberation time is out of range
     TimeRange,
     // 8: the target is not better than the rating
-    NotBetter,
+    TargetNotBetter,
     // 9: the target is outside -100..200
     TargetRange,
     // 10: the lent output is too small, or the offset beyond its end
-    NoRoom,
+    OutputTooSmall,
     // 11: the line is not a request
-    NotRequest,
+    NotARequest,
     // 12: the specimens are not 48 values
     SpecimenCount,
     // 16: the price is out of range
@@ -51,15 +51,15 @@ impl Refusal {
         match self {
             Refusal::BandCount => 1,
             Refusal::NotFinite => 2,
-            Refusal::NoReading => 3,
+            Refusal::ReadingMissing => 3,
             Refusal::BandRange => 4,
-            Refusal::Background => 5,
+            Refusal::BackgroundTooNear => 5,
             Refusal::DerivedRange => 6,
             Refusal::TimeRange => 7,
-            Refusal::NotBetter => 8,
+            Refusal::TargetNotBetter => 8,
             Refusal::TargetRange => 9,
-            Refusal::NoRoom => 10,
-            Refusal::NotRequest => 11,
+            Refusal::OutputTooSmall => 10,
+            Refusal::NotARequest => 11,
             Refusal::SpecimenCount => 12,
             Refusal::PriceRange => 16,
             Refusal::OtherBands => 17,

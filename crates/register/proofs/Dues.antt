@@ -9,7 +9,7 @@ use Rattle.laws.proofs.Tests.{never, refuted, both, both-made}
 use Rattle.quantity.specs.Keys.{keyShape}
 use Rattle.quantity.specs.Quantities.{priced}
 use Rattle.quantity.specs.declared.refusals.Refusal.{Refusal}
-use Rattle.quantity.specs.declared.refusals.Refusal.the-variants.{NotRequest, PriceRange, OtherBands, RegisterFull, RegisterDamaged}
+use Rattle.quantity.specs.declared.refusals.Refusal.the-variants.{NotARequest, PriceRange, OtherBands, RegisterFull, RegisterDamaged}
 use Rattle.rating.specs.declared.sheets.Sheet.{Sheet}
 use Rattle.rating.specs.declared.sheets.Rated.the-variants as rating
 use Rattle.rating.specs.Sheets.{ratedOf}
@@ -95,7 +95,7 @@ module _ (r : Register) (x : Call) where
   due-damaged a = rw a
 
   module _ (a : sound r ≡ true) where
-    pub due-shape : keyShape (x .key) ≡ false → dueOf r x ≡ refuse NotRequest
+    pub due-shape : keyShape (x .key) ≡ false → dueOf r x ≡ refuse NotARequest
     unfolding dueOf
     due-shape b = rw (a, b)
 

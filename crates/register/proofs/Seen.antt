@@ -8,7 +8,7 @@ use lib.Dec.{ltb}
 use Rattle.quantity.specs.Keys.{keyShape}
 use Rattle.quantity.specs.Quantities.{priced}
 use Rattle.quantity.specs.declared.refusals.Refusal.{Refusal}
-use Rattle.quantity.specs.declared.refusals.Refusal.the-variants.{NotRequest, PriceRange, OtherBands, RegisterFull, RegisterDamaged}
+use Rattle.quantity.specs.declared.refusals.Refusal.the-variants.{NotARequest, PriceRange, OtherBands, RegisterFull, RegisterDamaged}
 use Rattle.rating.specs.declared.sheets.Sheet.{Sheet}
 use Rattle.rating.specs.declared.sheets.Rated.{Rated}
 use Rattle.rating.specs.declared.sheets.Rated.the-variants.{Rating, Refused}
@@ -32,7 +32,7 @@ placed r x sheet t = due-placed r x (t .whole) (t .shape) sheet (t .rated) (t .p
 -- why a call is refused, in the order of the tests
 pub data Why (r : Register) (x : Call) : Refusal → Type 0 where
   damaged : sound r ≡ false → Why r x RegisterDamaged
-  misshapen : sound r ≡ true → keyShape (x .key) ≡ false → Why r x NotRequest
+  misshapen : sound r ≡ true → keyShape (x .key) ≡ false → Why r x NotARequest
   unrated : {refusal : Refusal} → sound r ≡ true → keyShape (x .key) ≡ true → ratedOf (x .kind) (x .set) ≡ Refused refusal → Why r x refusal
   dear : {sheet : Sheet} → sound r ≡ true → keyShape (x .key) ≡ true → ratedOf (x .kind) (x .set) ≡ Rating sheet → priced (x .price) ≡ false
       → Why r x PriceRange
@@ -73,7 +73,7 @@ seen r x = by-sound (sound r) refl
 
     by-shape : sound r ≡ true → (b : Bool) → keyShape (x .key) ≡ b → Seen r x
     by-shape s true k = by-rated s k (ratedOf (x .kind) (x .set)) refl
-    by-shape s false k = turned NotRequest (misshapen s k) (due-shape r x s k)
+    by-shape s false k = turned NotARequest (misshapen s k) (due-shape r x s k)
 
     by-sound : (b : Bool) → sound r ≡ b → Seen r x
     by-sound true s = by-shape s (keyShape (x .key)) refl

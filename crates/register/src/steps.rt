@@ -102,7 +102,7 @@ pub fn enter(
         return refuse(register, Refusal::RegisterDamaged);
     }
     if !is_key_of(key) {
-        return refuse(register, Refusal::NotRequest);
+        return refuse(register, Refusal::NotARequest);
     }
     match rate(kind, set) {
         Rated::Refused(refusal) => refuse(register, refusal),

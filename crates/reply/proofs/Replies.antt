@@ -13,7 +13,7 @@ use Rattle.quantity.specs.Keys.{byteAt}
 use Rattle.quantity.specs.Quantities.{inRange, nought}
 use Rattle.quantity.specs.declared.quantities.Tenths.{Tenths}
 use Rattle.quantity.specs.declared.refusals.Refusal.{Refusal}
-use Rattle.quantity.specs.declared.refusals.Refusal.the-variants.{BandCount, NoReading, BandRange}
+use Rattle.quantity.specs.declared.refusals.Refusal.the-variants.{BandCount, ReadingMissing, BandRange}
 use Rattle.quantity.specs.declared.refusals.Outcome.{Outcome}
 use Rattle.quantity.specs.declared.refusals.Outcome.the-variants as outcome
 use Rattle.quantity.specs.Refusals.{orElse}
@@ -110,7 +110,7 @@ in-range-at : (bs : List Band) (rest : List Tenths) (i : ℕ) → firstFault bs 
     → inRange (getD (map valueOf bs ++ rest) i nought .0) ≡ true
 unfolding firstFault
 in-range-at [] rest i e h = absurd (omega arith)
-in-range-at (missing ∷ bs) rest i e h = absurd (refused-none NoReading e)
+in-range-at (missing ∷ bs) rest i e h = absurd (refused-none ReadingMissing e)
 in-range-at (level limit z ∷ bs) rest zero e h = none-first z (firstFault bs) e
 in-range-at (level limit z ∷ bs) rest (suc i) e h = in-range-at bs rest i (none-after (faultOf (level limit z)) (firstFault bs) e) (omega arith)
 

@@ -6,7 +6,7 @@ use Prim.Native.Nat.{ℕ, _+_, _≤_}
 use lib.Dec.{leb, eqb}
 use lib.ListN.{length, take, drop}
 use Rattle.quantity.specs.declared.quantities.BandSet.{BandSet}
-use Rattle.quantity.specs.declared.refusals.Refusal.the-variants.{BandCount, NotRequest}
+use Rattle.quantity.specs.declared.refusals.Refusal.the-variants.{BandCount, NotARequest}
 use Rattle.quantity.specs.declared.refusals.Outcome.{Outcome}
 use Rattle.quantity.specs.declared.refusals.Outcome.the-variants as outcome
 use Rattle.kinds.specs.declared.kinds.Kind.{Kind}
@@ -51,7 +51,7 @@ answerOf line = answerTo (requestOf line)
 -- the same where it stands in a longer input, of which a block call answers line after line: the position after the request (0
 -- for none: "at most 512 bytes"), where its key stands, and what it is answered
 abbrev pub noReply : Reply
-noReply = record { next = 0; kind = A3; key = 0; len = 0; rated = Refused NotRequest }
+noReply = record { next = 0; kind = A3; key = 0; len = 0; rated = Refused NotARequest }
 
 unfoldable pub replyTo : ℕ → Asked → Reply
 replyTo at Asked.nothing = noReply

@@ -67,7 +67,7 @@ pub fn no_reply() -> Reply
         kind: Kind::A3,
         key: 0,
         len: 0,
-        rated: Rated::Refused(Refusal::NotRequest),
+        rated: Rated::Refused(Refusal::NotARequest),
     }
 }
 

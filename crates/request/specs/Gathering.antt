@@ -8,7 +8,7 @@ use lib.ListN.{length, replicate}
 use Rattle.quantity.specs.Quantities.{inRange, nought, tenths}
 use Rattle.quantity.specs.Refusals.{orElse}
 use Rattle.quantity.specs.declared.quantities.Tenths.{Tenths}
-use Rattle.quantity.specs.declared.refusals.Refusal.the-variants.{NoReading, BandRange}
+use Rattle.quantity.specs.declared.refusals.Refusal.the-variants.{ReadingMissing, BandRange}
 use Rattle.quantity.specs.declared.refusals.Outcome.{Outcome}
 use Rattle.quantity.specs.declared.refusals.Outcome.the-variants.{Accepted, Refused}
 use Rattle.request.specs.declared.bands.Field.{Field}
@@ -33,7 +33,7 @@ markOf (level limit z) = limit
 
 -- the refusal that a band gives, if any: "bands from the lowest, each 3, 2, 4"
 abbrev pub faultOf : Band → Outcome
-faultOf missing = Refused NoReading
+faultOf missing = Refused ReadingMissing
 faultOf (level limit z) = cond (inRange z) Accepted (Refused BandRange)
 
 -- of all bands, that of the lowest that gives one

@@ -122,7 +122,7 @@ fn missing_field(next: usize) -> Field
         next,
         value: Tenths(0),
         limit: false,
-        fault: Outcome::Refused(Refusal::NoReading),
+        fault: Outcome::Refused(Refusal::ReadingMissing),
     }
 }
 

@@ -11,7 +11,7 @@ use Rattle.laws.proofs.Extremes.{greatest-below}
 use Rattle.laws.proofs.Ints.{minus, apart, eq-made, le-true, le-false, lt-true, lt-false}
 use Rattle.quantity.specs.Quantities.{inRange, tenths}
 use Rattle.quantity.proofs.Rim.{range-read}
-use Rattle.quantity.specs.declared.refusals.Refusal.the-variants.{BandRange, Background}
+use Rattle.quantity.specs.declared.refusals.Refusal.the-variants.{BandRange, BackgroundTooNear}
 use Rattle.energy.specs.Corrections.{c, backgroundRule}
 use Rattle.intake.specs.declared.singles.Taken.{Taken}
 use Rattle.intake.specs.declared.singles.Taken.the-variants.{Value, Refused}
@@ -64,7 +64,7 @@ module _ (total background : ℤ) (t b : ℕ) (u : Up 200 total t) (w : Up 200 b
   field-clear h = (rw (over 60 (omega arith), from 100 h) refl, sym (over 60 (omega arith)))
 
   -- ---- the laboratory rule
-  pub laboratory-refused : t < b + 60 → Refused Background ≡ laboratoryLevel total background
+  pub laboratory-refused : t < b + 60 → Refused BackgroundTooNear ≡ laboratoryLevel total background
   unfolding laboratoryLevel
   laboratory-refused h = rw (below 60 h) refl
 

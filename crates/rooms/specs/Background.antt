@@ -4,7 +4,7 @@ use lib.IntN.{ℤ, pos, _-ℤ_}
 use lib.Signed.{leZ, ltZ}
 use Rattle.laws.specs.Parts.{P}
 use Rattle.quantity.specs.Quantities.{inRange, tenths}
-use Rattle.quantity.specs.declared.refusals.Refusal.the-variants.{BandRange, Background}
+use Rattle.quantity.specs.declared.refusals.Refusal.the-variants.{BandRange, BackgroundTooNear}
 use Rattle.energy.specs.Corrections.{c}
 use Rattle.intake.specs.declared.singles.Taken.{Taken}
 use Rattle.intake.specs.declared.singles.Taken.the-variants.{Value, Refused}
@@ -36,7 +36,7 @@ fieldOf total background =
 -- "d >= 150, no change; 60 <= d < 150, subtract c(d); below 60, refusal 5"
 unfoldable pub laboratoryLevel : ℤ → ℤ → Taken
 laboratoryLevel total background =
-    cond (ltZ (above total background) (pos 60)) (Refused Background)
+    cond (ltZ (above total background) (pos 60)) (Refused BackgroundTooNear)
     (cond (ltZ (above total background) (pos 150)) (Value (tenths (total -ℤ pos (c (P (above total background))))) false)
     (Value (tenths total) false))
 

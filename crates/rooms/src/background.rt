@@ -66,7 +66,7 @@ fn in_laboratory(total: Tenths, background: Tenths) -> Taken
     let t = above(total.0, 200);
     let b = above(background.0, 200);
     if t < b + 60 {
-        return Taken::Refused(Refusal::Background);
+        return Taken::Refused(Refusal::BackgroundTooNear);
     }
     if t < b + 150 {
         return Taken::Value(Tenths(less(t, 200 + amount(t - b))), false);

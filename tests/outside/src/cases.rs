@@ -10,7 +10,7 @@ fn frame_of(seeded: &mut Seeded, numbers: &[i64]) -> Frame {
     let (operation, rest) = numbers.split_first().expect("a case has an operation");
     match operation {
         1 => rate(seeded, rest),
-        2 => plain_numbers(seeded, Call::Reading, rest, 2),
+        2 => plain_numbers(seeded, Call::TakeReading, rest, 2),
         3 => {
             let (marks, bits) = readings(seeded, rest[1], &rest[2..]);
             Builder::new(seeded, Call::RateReadings)
@@ -20,9 +20,9 @@ fn frame_of(seeded: &mut Seeded, numbers: &[i64]) -> Frame {
                 .lend::<i32>(6)
                 .done()
         }
-        5 => plain_numbers(seeded, Call::Field, rest, 2),
-        6 => plain_numbers(seeded, Call::Laboratory, rest, 1),
-        7 => plain_numbers(seeded, Call::Raw, rest, 2),
+        5 => plain_numbers(seeded, Call::CorrectField, rest, 2),
+        6 => plain_numbers(seeded, Call::CorrectLaboratory, rest, 1),
+        7 => plain_numbers(seeded, Call::Standardized, rest, 2),
         8 => sixteen(seeded, Call::Octaves, rest, 6),
         9 => specimens(seeded, Call::Specimens, 0, rest, 17),
         10 => sixteen(seeded, Call::Cover, rest, 3),
@@ -110,7 +110,7 @@ pub fn answer_of(returned: u32, frame: &Frame) -> String {
         Call::RateReadings | Call::Specimens | Call::Grade => say(frame.array(2)),
         Call::Bill => say(&frame.array(3)[..7]),
         Call::Owed | Call::Close => say(&frame.array(1)[..1]),
-        Call::RegisterOpen => (),
+        Call::OpenRegister => (),
         _ => say(frame.array(0)),
     }
     words.join(" ")

@@ -11,19 +11,19 @@ use std::fmt::{self, Write};
 /// The calls that are compared, and how many frames or streams of each; of a register, how many
 /// calls in histories.
 pub const PLAN: [(Call, &str, usize); 15] = [
-    (Call::Reading, "reading", 200_000),
+    (Call::TakeReading, "take_reading", 200_000),
     (Call::Rate, "rate", 250_000),
     (Call::RateReadings, "rate_readings", 100_000),
     (Call::Cover, "cover", 80_000),
-    (Call::Field, "field", 60_000),
-    (Call::Laboratory, "laboratory", 60_000),
-    (Call::Raw, "raw", 120_000),
+    (Call::CorrectField, "correct_field", 60_000),
+    (Call::CorrectLaboratory, "correct_laboratory", 60_000),
+    (Call::Standardized, "standardized", 120_000),
     (Call::Octaves, "octaves", 60_000),
     (Call::Specimens, "specimens", 40_000),
     (Call::Grade, "grade", 40_000),
     (Call::Lift, "lift", 50_000),
-    (Call::Line, "line", 150_000),
-    (Call::Block, "block", 2_000),
+    (Call::AnswerLine, "answer_line", 150_000),
+    (Call::AnswerBlock, "answer_block", 2_000),
     (Call::Bill, "register", 220_000),
     (Call::Close, "closings", 180_000),
 ];
@@ -47,7 +47,7 @@ pub fn all(door: &mut Door, wanted: &[String], part: usize) -> Compared {
             continue;
         }
         let mut seeded = Seeded::new(0x1b50_1a11 + call as u64);
-        if call == Call::Block {
+        if call == Call::AnswerBlock {
             let streams = streams::compare(door, &mut seeded, count / part)?;
             println!("  {name}: {streams} streams");
             compared += streams;
@@ -190,8 +190,8 @@ fn sizes(call: Call) -> [usize; 4] {
     match call {
         Call::RateReadings | Call::Specimens | Call::Grade => [1, 4, 4, 1],
         Call::Lift => [4, 2, 4, 1],
-        Call::Line | Call::Block => [1, 1, 8, 1],
-        Call::RegisterOpen | Call::Bill => [size_of::<Register>(), 1, 4, 4],
+        Call::AnswerLine | Call::AnswerBlock => [1, 1, 8, 1],
+        Call::OpenRegister | Call::Bill => [size_of::<Register>(), 1, 4, 4],
         Call::Owed | Call::Close => [size_of::<Register>(), 4, 1, 1],
         _ => [4, 4, 4, 1],
     }
@@ -200,14 +200,16 @@ fn sizes(call: Call) -> [usize; 4] {
 /// A frame's call with all that it is given; floats by their bits.
 pub fn shown(frame: &Frame) -> String {
     let mut text = match frame.call {
-        Call::Reading | Call::Raw => format!("{:?} of numbers {:#x?}", frame.call, frame.numbers),
+        Call::TakeReading | Call::Standardized => {
+            format!("{:?} of numbers {:#x?}", frame.call, frame.numbers)
+        }
         _ => format!("{:?} of numbers {:?}", frame.call, frame.numbers),
     };
     for (which, size) in sizes(frame.call).into_iter().enumerate() {
         let length = frame.parts[which].length;
         write!(text, ", array {which} of {length}: ").unwrap();
         match (frame.call, size) {
-            (Call::Line | Call::Block | Call::Bill, 1) => {
+            (Call::AnswerLine | Call::AnswerBlock | Call::Bill, 1) => {
                 write!(text, "\"{}\"", frame.array::<u8>(which).escape_ascii())
             }
             (_, 1) => write!(text, "{:?}", frame.array::<u8>(which)),

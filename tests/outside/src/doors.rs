@@ -5,21 +5,22 @@ use std::io::{Read, Write};
 use std::process::{Child, ChildStdin, ChildStdout, Command, Stdio};
 
 /// The calls of one door, as functions on slices; R is what the door calls a register.
+#[allow(clippy::type_complexity)] // as C has them
 pub struct Calls<R> {
-    reading: fn(u32, f32, &mut [i32]) -> u32,
+    take_reading: fn(u32, f32, &mut [i32]) -> u32,
     pub rate: fn(u32, &[i32], u32, &mut [i32]) -> u32,
     rate_readings: fn(u32, &[u8], &[f32], &mut [i32]) -> u32,
     cover: fn(&[i32], u32, &mut [i32]) -> u32,
-    field: fn(i32, i32, &mut [i32]) -> u32,
-    laboratory: fn(i32, i32, &mut [i32]) -> u32,
-    raw: fn(f32, f32, f32, f32, &mut [i32]) -> u32,
+    correct_field: fn(i32, i32, &mut [i32]) -> u32,
+    correct_laboratory: fn(i32, i32, &mut [i32]) -> u32,
+    standardized: fn(f32, f32, f32, f32, &mut [i32]) -> u32,
     octaves: fn(&[i32], u32, &mut [i32]) -> u32,
     specimens: fn(&[u8], &[f32], &mut [i32]) -> u32,
     grade: fn(u32, &[u8], &[f32], &mut [i32]) -> u32,
     lift: fn(u32, &[i32], u32, i32, &mut [u16], &mut [i32]) -> u32,
-    pub line: fn(&[u8], &mut [u8], usize, &mut [u64]) -> u32,
-    block: fn(&[u8], u32, u32, &mut [u8], &mut [u64]) -> u32,
-    register_open: fn(&mut R) -> u32,
+    pub answer_line: fn(&[u8], &mut [u8], usize, &mut [u64]) -> u32,
+    answer_block: fn(&[u8], u32, u32, &mut [u8], &mut [u64]) -> u32,
+    open_register: fn(&mut R) -> u32,
     bill: fn(&mut R, u64, &[u8], u32, &[i32], u32, u32, &mut [i32]) -> u32,
     owed: fn(&R, u64, &mut [i32]) -> u32,
     close: fn(&mut R, u64, &mut [i32]) -> u32,
@@ -29,20 +30,20 @@ macro_rules! calls_of {
     ($door:path) => {{
         use $door::*;
         Calls {
-            reading,
+            take_reading,
             rate,
             rate_readings,
             cover,
-            field,
-            laboratory,
-            raw,
+            correct_field,
+            correct_laboratory,
+            standardized,
             octaves,
             specimens,
             grade,
             lift,
-            line,
-            block,
-            register_open,
+            answer_line,
+            answer_block,
+            open_register,
             bill,
             owed,
             close,
@@ -64,7 +65,9 @@ impl<R: Element> Calls<R> {
         let float = |number: u64| f32::from_bits(number as u32);
         // A call that has fewer arrays than are taken leaves the others empty.
         match frame.call {
-            Call::Reading => (self.reading)(word(a), float(b), frame.arrays::<i32, u8, u8>().0),
+            Call::TakeReading => {
+                (self.take_reading)(word(a), float(b), frame.arrays::<i32, u8, u8>().0)
+            }
             Call::Rate => {
                 let (values, out, _) = frame.arrays::<i32, i32, u8>();
                 (self.rate)(word(a), values, word(b), out)
@@ -77,13 +80,15 @@ impl<R: Element> Calls<R> {
                 let (values, out, _) = frame.arrays::<i32, i32, u8>();
                 (self.cover)(values, word(a), out)
             }
-            Call::Field => (self.field)(signed(a), signed(b), frame.arrays::<i32, u8, u8>().0),
-            Call::Laboratory => {
-                (self.laboratory)(signed(a), signed(b), frame.arrays::<i32, u8, u8>().0)
+            Call::CorrectField => {
+                (self.correct_field)(signed(a), signed(b), frame.arrays::<i32, u8, u8>().0)
             }
-            Call::Raw => {
+            Call::CorrectLaboratory => {
+                (self.correct_laboratory)(signed(a), signed(b), frame.arrays::<i32, u8, u8>().0)
+            }
+            Call::Standardized => {
                 let out = frame.arrays::<i32, u8, u8>().0;
-                (self.raw)(float(a), float(b), float(c), float(d), out)
+                (self.standardized)(float(a), float(b), float(c), float(d), out)
             }
             Call::Octaves => {
                 let (values, out, _) = frame.arrays::<i32, i32, u8>();
@@ -101,15 +106,15 @@ impl<R: Element> Calls<R> {
                 let (values, list, out) = frame.arrays();
                 (self.lift)(word(a), values, word(b), signed(c), list, out)
             }
-            Call::Line => {
+            Call::AnswerLine => {
                 let (line, out, wrote) = frame.arrays();
-                (self.line)(line, out, a as usize, wrote)
+                (self.answer_line)(line, out, a as usize, wrote)
             }
-            Call::Block => {
+            Call::AnswerBlock => {
                 let (input, out, progress) = frame.arrays();
-                (self.block)(input, word(a), word(b), out, progress)
+                (self.answer_block)(input, word(a), word(b), out, progress)
             }
-            Call::RegisterOpen => (self.register_open)(&mut frame.arrays::<R, u8, u8>().0[0]),
+            Call::OpenRegister => (self.open_register)(&mut frame.arrays::<R, u8, u8>().0[0]),
             Call::Bill => {
                 let (register, key, values, out) = frame.four_arrays::<R, _, _, _>();
                 (self.bill)(&mut register[0], a, key, word(b), values, word(c), word(d), out)

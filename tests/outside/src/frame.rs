@@ -4,24 +4,24 @@ use crate::seeded::Seeded;
 use imbrolt::door::Register as Words;
 use imbrolt_plain::register::Register;
 
-/// The calls, in the order of `include/imbrolt.h`.
+/// The calls that are compared, in the order of `include/imbrolt.h`: their numbers are door.c's, too.
 #[derive(Clone, Copy, Debug, PartialEq, Eq)]
 #[repr(u32)]
 pub enum Call {
-    Reading,
+    TakeReading,
     Rate,
     RateReadings,
     Cover,
-    Field,
-    Laboratory,
-    Raw,
+    CorrectField,
+    CorrectLaboratory,
+    Standardized,
     Octaves,
     Specimens,
     Grade,
     Lift,
-    Line,
-    Block,
-    RegisterOpen,
+    AnswerLine,
+    AnswerBlock,
+    OpenRegister,
     Bill,
     Owed,
     Close,
@@ -100,7 +100,7 @@ impl Frame {
     fn within<T>(&self, part: usize) -> Part {
         let part = self.parts[part];
         let end = part.start + part.length * size_of::<T>();
-        assert!(end <= 8 * self.memory.len() && part.start % align_of::<T>() == 0);
+        assert!(end <= 8 * self.memory.len() && part.start.is_multiple_of(align_of::<T>()));
         part
     }
 

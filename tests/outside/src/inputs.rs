@@ -26,17 +26,17 @@ impl Lengths {
 /// A frame of a call that stands alone.
 pub fn frame(seeded: &mut Seeded, call: Call, lengths: Lengths) -> Frame {
     match call {
-        Call::Reading => reading(seeded, lengths),
+        Call::TakeReading => take_reading(seeded, lengths),
         Call::Rate => rate(seeded, lengths),
         Call::RateReadings => rate_readings(seeded, lengths),
         Call::Cover | Call::Octaves => sixteen(seeded, call, lengths),
-        Call::Field | Call::Laboratory => correction(seeded, call, lengths),
-        Call::Raw => raw(seeded, lengths),
+        Call::CorrectField | Call::CorrectLaboratory => correction(seeded, call, lengths),
+        Call::Standardized => standardized(seeded, lengths),
         Call::Specimens | Call::Grade => specimens(seeded, call, lengths),
         Call::Lift => lift(seeded, lengths),
-        Call::Line => line(seeded, lengths),
-        Call::Block => unreachable!("blocks come in streams"),
-        Call::RegisterOpen | Call::Bill | Call::Owed | Call::Close => {
+        Call::AnswerLine => answer_line(seeded, lengths),
+        Call::AnswerBlock => unreachable!("blocks come in streams"),
+        Call::OpenRegister | Call::Bill | Call::Owed | Call::Close => {
             unreachable!("calls on a register come in histories")
         }
     }
@@ -59,9 +59,9 @@ fn word(number: i32) -> u64 {
     u64::from(number as u32)
 }
 
-fn reading(seeded: &mut Seeded, lengths: Lengths) -> Frame {
+fn take_reading(seeded: &mut Seeded, lengths: Lengths) -> Frame {
     let (mark, value) = (mark(seeded), level(seeded));
-    Builder::new(seeded, Call::Reading)
+    Builder::new(seeded, Call::TakeReading)
         .number(mark.into())
         .number(bits(value))
         .lend::<i32>(lengths.out.unwrap_or(2))
@@ -138,14 +138,14 @@ fn correction(seeded: &mut Seeded, call: Call, lengths: Lengths) -> Frame {
         .done()
 }
 
-fn raw(seeded: &mut Seeded, lengths: Lengths) -> Frame {
+fn standardized(seeded: &mut Seeded, lengths: Lengths) -> Frame {
     let source = seeded.between(-200, 1500);
     let receiving = source - seeded.between(-100, 900);
     let background = receiving - seeded.between(-40, 200);
     let levels = [source, receiving, background].map(|tenths| room_level(seeded, tenths));
     let time = time(seeded);
     let [source, receiving, background] = levels.map(bits);
-    Builder::new(seeded, Call::Raw)
+    Builder::new(seeded, Call::Standardized)
         .number(source)
         .number(receiving)
         .number(background)
@@ -202,7 +202,7 @@ fn lift(seeded: &mut Seeded, lengths: Lengths) -> Frame {
 }
 
 /// A line, and an offset within the output, at its end, or past it.
-fn line(seeded: &mut Seeded, lengths: Lengths) -> Frame {
+fn answer_line(seeded: &mut Seeded, lengths: Lengths) -> Frame {
     let mut text = texts::line(seeded);
     if let Some(length) = lengths.values {
         text.resize(length, b'\t');
@@ -212,7 +212,7 @@ fn line(seeded: &mut Seeded, lengths: Lengths) -> Frame {
     let places = at + seeded.pick(&[64, 64, 64, 100, room, room]);
     let past = [places, places + 1, usize::MAX, usize::MAX - 63, 1 << 63];
     let at = if seeded.chance(12) { seeded.pick(&past) } else { at };
-    Builder::new(seeded, Call::Line)
+    Builder::new(seeded, Call::AnswerLine)
         .number(at as u64)
         .give(&text)
         .lend::<u8>(places)

@@ -27,7 +27,7 @@ pub struct Ledger {
 impl Ledger {
     /// A register of junk.
     pub fn new(seeded: &mut Seeded) -> Ledger {
-        let now = Builder::new(seeded, Call::RegisterOpen).lend::<Register>(1).done();
+        let now = Builder::new(seeded, Call::OpenRegister).lend::<Register>(1).done();
         Ledger { before: now.clone(), proved: now.clone(), now }
     }
 
@@ -57,7 +57,7 @@ impl Ledger {
 
     /// Opens it.
     pub fn open(&mut self, door: &mut Door, seeded: &mut Seeded) -> Result<u32, String> {
-        self.make(door, seeded, Call::RegisterOpen, |builder| builder)
+        self.make(door, seeded, Call::OpenRegister, |builder| builder)
     }
 
     /// A call with an output of so many places.

@@ -25,6 +25,7 @@ mod steps;
 mod streams;
 mod texts;
 
+use compare::PLAN;
 use doors::{Door, Program};
 use seeded::Seeded;
 use std::io::{read_to_string, stdin, stdout, Read, Write};
@@ -50,8 +51,8 @@ fn main() -> ExitCode {
     };
     match done {
         Ok(()) => ExitCode::SUCCESS,
-        Err(difference) => {
-            eprint!("outside: differs: {difference}");
+        Err(why) => {
+            eprint!("outside: {why}");
             ExitCode::FAILURE
         }
     }
@@ -62,11 +63,19 @@ fn option<'a>(words: &'a [String], name: &str) -> Option<&'a str> {
     words.iter().find_map(|word| word.strip_prefix(name)?.strip_prefix('='))
 }
 
+fn differs(difference: String) -> String {
+    format!("differs: {difference}")
+}
+
 fn compared(door: &mut Door, words: &[String]) -> Result<(), String> {
     let wanted: Vec<String> =
         option(words, "calls").map_or(vec![], |names| names.split(',').map(String::from).collect());
     let part = option(words, "part").map_or(1, |number| number.parse().expect("part is a number"));
-    let count = compare::all(door, &wanted, part)?;
+    let known = |name: &String| PLAN.iter().any(|(_, call, _)| call == name);
+    if let Some(name) = wanted.iter().find(|name| !known(name)) {
+        return Err(format!("no call is named {name}\n"));
+    }
+    let count = compare::all(door, &wanted, part).map_err(differs)?;
     println!("outside: {count} compared, 0 differ");
     Ok(())
 }
@@ -77,7 +86,7 @@ fn answered_texts(
     answers: fn(&mut Door, &str) -> Result<String, String>,
 ) -> Result<(), String> {
     let asked = read_to_string(stdin()).expect("lines are text");
-    print!("{}", answers(door, &asked)?);
+    print!("{}", answers(door, &asked).map_err(differs)?);
     Ok(())
 }
 
@@ -86,7 +95,7 @@ fn answered_lines(door: &mut Door) -> Result<(), String> {
     let mut asked = Vec::new();
     stdin().read_to_end(&mut asked).expect("standard input can be read");
     let seeded = &mut Seeded::new(0x11ae5);
-    let answers = streams::Run { door, seeded }.answers(&asked)?;
+    let answers = streams::Run { door, seeded }.answers(&asked).map_err(differs)?;
     stdout().write_all(&answers).expect("standard output can be written");
     Ok(())
 }

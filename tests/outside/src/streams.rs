@@ -19,7 +19,7 @@ pub fn compare(door: &mut Door, seeded: &mut Seeded, count: usize) -> Compared {
         let output = Run { door, seeded }.answers(&input)?;
         if output != answers_line_by_line(&input) {
             return Err(format!(
-                "block: the answers to the stream {:?} are {:?}\n",
+                "answer_block: the answers to the stream {:?} are {:?}\n",
                 String::from_utf8_lossy(&input),
                 String::from_utf8_lossy(&output)
             ));
@@ -53,7 +53,7 @@ pub fn lines_of(stream: &[u8]) -> impl Iterator<Item = &[u8]> {
 fn answer(line: &[u8]) -> Vec<u8> {
     let mut out = [0; LONGEST_ANSWER];
     let mut wrote = [0];
-    assert_eq!((PLAIN.line)(line, &mut out, 0, &mut wrote), 0);
+    assert_eq!((PLAIN.answer_line)(line, &mut out, 0, &mut wrote), 0);
     out[..wrote[0] as usize].to_vec()
 }
 
@@ -71,7 +71,7 @@ fn block_frame(
 ) -> Frame {
     // Any number but 0 says yes.
     let yes = seeded.pick(&[1, 1, 2, u64::from(u32::MAX)]);
-    Builder::new(seeded, Call::Block)
+    Builder::new(seeded, Call::AnswerBlock)
         .number(if skipping { yes } else { 0 })
         .number(if last { yes } else { 0 })
         .give(input)
@@ -116,7 +116,7 @@ impl Run<'_> {
         if from == stream.len() {
             return Ok(output);
         }
-        Err(format!("block: {} of {} bytes of a stream are left unused\n", to - from, to))
+        Err(format!("answer_block: {} of {} bytes of a stream are left unused\n", to - from, to))
     }
 
     /// One call; with too small an output at first, if luck has it.

@@ -6,7 +6,7 @@ or down and made uneven by noise; their octaves are the middle thirds.
 
 from fractions import Fraction
 
-from imbrolt.quantities import GREATEST_VALUE, LEAST_VALUE
+from paper.quantities import GREATEST_VALUE, LEAST_VALUE
 
 AIRBORNE_SHAPES = (
     # door leaf with seals

@@ -10,8 +10,8 @@ A step is a word and what goes with it:
   read                 all bytes are shown
 """
 
-from imbrolt.quantities import BandSet, KINDS
-from imbrolt.register import (
+from paper.quantities import BandSet, KINDS
+from paper.register import (
     BILL_PLACES, CLOSE_PLACES, COUNT, COUNT_AT, Call, ENTRY, Entry, GREATEST_PRICE, MOST_ENTRIES,
     SIZE, bill_in, bytes_of_entry, close_in, open_in, owed_in)
 

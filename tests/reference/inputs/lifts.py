@@ -1,7 +1,7 @@
 """The lift list: operation 12."""
 
-from imbrolt.quantities import GREATEST_VALUE, KINDS, LEAST_VALUE
-from imbrolt.rating import rating_at, rating_of
+from paper.quantities import GREATEST_VALUE, KINDS, LEAST_VALUE
+from paper.rating import rating_at, rating_of
 
 from .curves import measured
 from .ratings import (

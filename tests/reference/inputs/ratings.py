@@ -1,7 +1,7 @@
 """Band sets in tenths, operation 1, and the odd values that others use too."""
 
-from imbrolt.quantities import A3, GREATEST_VALUE, KINDS, LEAST_VALUE
-from imbrolt.rooms import REFERENCE_FLOOR
+from paper.quantities import A3, GREATEST_VALUE, KINDS, LEAST_VALUE
+from paper.rooms import REFERENCE_FLOOR
 
 from .curves import COVER_SHAPES, limit_marks, measured
 

@@ -2,7 +2,7 @@
 
 from fractions import Fraction
 
-from imbrolt.quantities import (
+from paper.quantities import (
     GREATEST_VALUE, KINDS, LEAST_VALUE, LEVEL, LIMIT, MISSING)
 
 from .curves import analyser_bits, bits_nearest, bits_of_tenths, limit_marks, measured

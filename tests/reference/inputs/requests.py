@@ -1,7 +1,7 @@
 """Request lines of the program `rate`: realistic, at the edges, damaged."""
 
-from imbrolt.quantities import A1, A3, I1, I3, KINDS
-from imbrolt.rooms import REFERENCE_FLOOR
+from paper.quantities import A1, A3, I1, I3, KINDS
+from paper.rooms import REFERENCE_FLOOR
 
 from .curves import limit_marks, measured
 from .ratings import any_value_set, mixed_ends_set, near_limit_set, small_value_set

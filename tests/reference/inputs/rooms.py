@@ -2,8 +2,8 @@
 
 from fractions import Fraction
 
-from imbrolt.quantities import A3, GREATEST_VALUE, LEAST_VALUE, LEVEL, LIMIT, Reading
-from imbrolt.rooms import REFERENCE_FLOOR, grade
+from paper.quantities import A3, GREATEST_VALUE, LEAST_VALUE, LEVEL, LIMIT, Reading
+from paper.rooms import REFERENCE_FLOOR, grade
 
 from .curves import (
     AIRBORNE_SHAPES, COVER_SHAPES, analyser_bits, bits_nearest, bits_of_tenths, limit_marks,

@@ -1,0 +1,10 @@
+// The version of this library.
+ghost use mathlib.Core.Path.{_≡_};
+ghost use Rattle.desk.specs.Version.{versionNumber};
+
+// Ten thousand times the first part of the version, a hundred times the second, and the third.
+pub fn version() -> u32
+    ensures { λ r. ⌜ r ≡ versionNumber ⌝ }
+{
+    200
+}

@@ -1,0 +1,109 @@
+"""bin/rate builds what it runs: again when the sources have changed, by their sum, and only then.
+
+Each test has a copy of the repository with the program as it is built, and an `rt` that leaves a trace and fails.
+"""
+
+import os
+import shutil
+import subprocess
+import tempfile
+import unittest
+from pathlib import Path
+
+from command import ANSWER, LINE, ROOT, run
+
+SOURCES = ("bin", "build", "command", "crates", "crates.txt", "VERSION")
+BUILT = ("rate", "rate.sum", "words", "words.sum")
+
+
+class Build(unittest.TestCase):
+    def setUp(self):
+        folder = tempfile.TemporaryDirectory()
+        self.addCleanup(folder.cleanup)
+        self.tree = Path(folder.name) / "tree"
+        self.tree.mkdir()
+        for name in SOURCES:
+            source = ROOT / name
+            (shutil.copytree if source.is_dir() else shutil.copy2)(source, self.tree / name)
+        subprocess.run([ROOT / "build" / "native", "words"], check=True, capture_output=True)
+        native = self.tree / "target" / "native"
+        native.mkdir(parents=True)
+        for name in BUILT:
+            shutil.copy2(ROOT / "target" / "native" / name, native / name)
+        self.make_rt(Path(folder.name) / "kit")
+
+    def make_rt(self, kit):
+        """A kit whose rt says that it was called, and fails."""
+        for place in ("bin", "on/aarch64/toolchain/bin", "on/x86_64/toolchain/bin"):
+            (kit / place).mkdir(parents=True)
+        self.trace = kit / "trace"
+        rt = kit / "bin" / "rt"
+        rt.write_text(f'#!/bin/sh\necho "$@" >>"{self.trace}"\necho "rt: laws NOT PROVED"\nexit 1\n')
+        rt.chmod(0o755)
+        self.environment = {**os.environ, "PATH": f"{kit}/bin:{os.environ['PATH']}"}
+        self.environment.pop("RATTLE_HOME", None)
+
+    def rate(self, *words, given=LINE):
+        return run(*words, program=self.tree / "bin" / "rate", given=given, env=self.environment)
+
+    def test_what_is_built_runs(self):
+        self.assertEqual(self.rate(), (0, ANSWER, ""))
+        self.assertFalse(self.trace.exists())
+
+    def test_other_times_of_the_sources_change_nothing(self):
+        for path in (self.tree / "crates").rglob("*"):
+            os.utime(path, (2_000_000_000, 2_000_000_000))
+        self.assertEqual(self.rate(), (0, ANSWER, ""))
+        self.assertFalse(self.trace.exists())
+
+    def test_other_sources_are_built_before_anything_is_answered(self):
+        """The old program answers nothing, whatever the times of the sources say."""
+        for name in ("crates/laws/specs/Lib.antt", "command/rate.c", "crates.txt", "VERSION"):
+            with self.subTest(name):
+                source = self.tree / name
+                before, times = source.read_bytes(), source.stat()
+                source.write_bytes(before + b"\n")
+                os.utime(source, ns=(times.st_atime_ns, times.st_mtime_ns))
+                status, answers, messages = self.rate()
+                self.assertEqual((status, answers), (1, b""))
+                self.assertIn("build: proving and building rate", messages)
+                self.assertIn("rt: laws NOT PROVED", messages)
+                self.assertTrue(self.trace.exists())
+                self.trace.unlink()
+                source.write_bytes(before)
+                self.assertEqual(self.rate(), (0, ANSWER, ""))
+                self.assertFalse(self.trace.exists())
+
+    def test_a_new_and_a_lost_source_are_other_sources(self):
+        (self.tree / "crates" / "laws" / "specs" / "New.antt").write_text("")
+        self.assertEqual(self.rate()[:2], (1, b""))
+        (self.tree / "crates" / "laws" / "specs" / "New.antt").unlink()
+        (self.tree / "crates" / "laws" / "specs" / "Lib.antt").unlink()
+        self.assertEqual(self.rate()[:2], (1, b""))
+
+    def test_words_that_ask_for_no_rating_build_nothing(self):
+        shutil.rmtree(self.tree / "target")
+        self.assertEqual(self.rate("--version")[::2], (0, ""))
+        self.assertEqual(self.rate("--help")[::2], (0, ""))
+        status, answers, messages = self.rate("--unknown")
+        self.assertEqual((status, answers), (2, b""))
+        self.assertIn("usage: rate", messages)
+        self.assertFalse(self.trace.exists())
+
+    def test_without_the_toolchain_it_is_told_what_is_missing(self):
+        shutil.rmtree(self.tree / "target")
+        self.environment["PATH"] = "/usr/bin:/bin"
+        if shutil.which("rt", path=self.environment["PATH"]):
+            self.skipTest("rt stands among the system's commands")
+        status, answers, messages = self.rate()
+        self.assertEqual((status, answers), (1, b""))
+        self.assertIn("rt, the command of the Rattle kit, is not on the PATH", messages)
+
+    def test_it_runs_from_anywhere_and_by_a_link(self):
+        link = self.tree.parent / "link"
+        link.symlink_to(self.tree / "bin" / "rate")
+        self.assertEqual(run(program=link, given=LINE, cwd="/", env=self.environment), (0, ANSWER, ""))
+
+
+if __name__ == "__main__":
+    unittest.main()
