@@ -1,9 +1,9 @@
 /*
  * Imbrolt: sound insulation ratings in whole numbers, from a proved library.
  *
- * Link libimbrolt.a or libimbrolt.so (`pkg-config --cflags --libs imbrolt`). It needs no other library,
- * allocates nothing, keeps no state between calls and may be called from any number of threads at once. A register that a call may change is lent to
- * that call alone.
+ * Link libimbrolt.a or libimbrolt.so (`pkg-config --cflags --libs imbrolt`). It needs no other
+ * library, allocates nothing, keeps no state between calls and may be called from any number of
+ * threads at once. A register that a call may change is lent to that call alone.
  *
  * What every function has in common
  *
@@ -36,7 +36,7 @@ extern "C" {
 #endif
 
 /* The version of this header. That of the library that is linked is imbrolt_version(). */
-#define IMBROLT_VERSION 200 /* 10000 times the first part, 100 times the second, and the third */
+#define IMBROLT_VERSION 200 /* 10000 times the first part, 100 times the second, plus the third */
 #define IMBROLT_VERSION_TEXT "0.2.0"
 
 /* The most bytes of a request line and of an answer line, with their line feeds. */
@@ -195,7 +195,7 @@ enum imbrolt_total {
     IMBROLT_OWED_PLACES = 1
 };
 
-/* The version of the library: IMBROLT_VERSION of its header. Never refused; this is the one function whose
+/* The version of the library: IMBROLT_VERSION of its header. Never refused; the one function whose
  * return value is not a refusal's number. */
 uint32_t imbrolt_version(void);
 
@@ -234,7 +234,8 @@ uint32_t imbrolt_rate(uint32_t kind, const int32_t *values, size_t values_len, u
  * IMBROLT_NOT_FINITE, IMBROLT_BAND_RANGE; then IMBROLT_OUTPUT_TOO_SMALL.
  */
 uint32_t imbrolt_rate_readings(uint32_t kind, const uint8_t *marks, size_t marks_len,
-                               const float *values, size_t values_len, int32_t *out, size_t out_len);
+                               const float *values, size_t values_len, int32_t *out,
+                               size_t out_len);
 
 /*
  * Rates the improvement by a floor cover, given band by band for 16 thirds, in tenths.
@@ -267,7 +268,8 @@ uint32_t imbrolt_correct_field(int32_t total, int32_t background, int32_t *out, 
  * Refusals: IMBROLT_BAND_RANGE for the total, then for the background; IMBROLT_BACKGROUND_TOO_NEAR;
  * IMBROLT_OUTPUT_TOO_SMALL.
  */
-uint32_t imbrolt_correct_laboratory(int32_t total, int32_t background, int32_t *out, size_t out_len);
+uint32_t imbrolt_correct_laboratory(int32_t total, int32_t background, int32_t *out,
+                                    size_t out_len);
 
 /*
  * Works out the standardized level difference of one raw band: source-room level, receiving-room
@@ -280,8 +282,8 @@ uint32_t imbrolt_correct_laboratory(int32_t total, int32_t background, int32_t *
  * IMBROLT_NOT_FINITE, IMBROLT_TIME_RANGE for the time; IMBROLT_DERIVED_RANGE;
  * IMBROLT_OUTPUT_TOO_SMALL.
  */
-uint32_t imbrolt_standardized(float source, float receiving, float background, float time, int32_t *out,
-                     size_t out_len);
+uint32_t imbrolt_standardized(float source, float receiving, float background, float time,
+                              int32_t *out, size_t out_len);
 
 /*
  * Forms the 5 octaves of 16 thirds, in tenths. The last third is not used.
@@ -337,20 +339,21 @@ uint32_t imbrolt_grade(uint32_t side, const uint8_t *marks, size_t marks_len, co
  * IMBROLT_OUTPUT_TOO_SMALL (list or out).
  */
 uint32_t imbrolt_lift(uint32_t kind, const int32_t *values, size_t values_len, uint32_t marks,
-                      int32_t target, uint16_t *list, size_t list_len, int32_t *out, size_t out_len);
+                      int32_t target, uint16_t *list, size_t list_len, int32_t *out,
+                      size_t out_len);
 
 /*
  * Answers one request line, given with its line feed.
  *
  *   out[at] ..  the answer line with its line feed; bytes before and after it keep their contents
- *   wrote[0]    its length in bytes, at most 64
+ *   wrote[0]    its length in bytes, at most IMBROLT_ANSWER_MAX
  *
  * A refused request is answered by a line that names its refusal, and what is not a request by the
  * line `?`, `?`, 11; the call itself is refused only with IMBROLT_OUTPUT_TOO_SMALL (at is past the
  * end of out, the line does not fit between at and the end, or wrote has no place).
  */
-uint32_t imbrolt_answer_line(const uint8_t *line, size_t line_len, uint8_t *out, size_t out_len, size_t at,
-                      uint64_t *wrote, size_t wrote_len);
+uint32_t imbrolt_answer_line(const uint8_t *line, size_t line_len, uint8_t *out, size_t out_len,
+                             size_t at, uint64_t *wrote, size_t wrote_len);
 
 /*
  * Answers the lines of a stream, a block of bytes at a time.
@@ -363,13 +366,14 @@ uint32_t imbrolt_answer_line(const uint8_t *line, size_t line_len, uint8_t *out,
  * Hand in skipping = 0 with the first block and progress[2] of the call before with every other;
  * last = 1 once the input ends with this block, else 0 (any number but 0 is 1). A last piece without
  * its line feed is then answered too. The answers of all calls, joined, are those of the whole
- * stream, however it was cut: one for each line, in order. An out of 64 bytes or more has room for
- * any answer.
+ * stream, however it was cut: one for each line, in order. An out of IMBROLT_ANSWER_MAX bytes or more
+ * has room for any answer.
  *
  * Refused only with IMBROLT_OUTPUT_TOO_SMALL, where progress has fewer than 3 places.
  */
-uint32_t imbrolt_answer_block(const uint8_t *input, size_t input_len, uint32_t skipping, uint32_t last,
-                       uint8_t *out, size_t out_len, uint64_t *progress, size_t progress_len);
+uint32_t imbrolt_answer_block(const uint8_t *input, size_t input_len, uint32_t skipping,
+                              uint32_t last, uint8_t *out, size_t out_len, uint64_t *progress,
+                              size_t progress_len);
 
 /* The most entries of a register. */
 #define IMBROLT_REGISTER_ENTRIES 512
