@@ -8,7 +8,7 @@ from typing import NamedTuple
 
 from . import energies
 from .quantities import (
-    A3, BACKGROUND_TOO_NEAR, BAND_RANGE, BandSet, DERIVED_RANGE, I3, NOT_SPECIMENS,
+    A3, BACKGROUND_TOO_NEAR, BAND_RANGE, BandSet, DERIVED_RANGE, I3, SPECIMEN_COUNT,
     Refused, checked_values, hundredths_of_time, in_range, marks_of_bands, taken_in,
     tenths_of_bits)
 from .rating import rating_of, sheet_of, terms_of
@@ -87,7 +87,7 @@ def specimens(readings, length):
     band means, each a limit if any of its three values is.
     """
     if length != 48:
-        raise Refused(NOT_SPECIMENS)
+        raise Refused(SPECIMEN_COUNT)
     given = taken_in(readings[:48])
     means = []
     marks = 0
