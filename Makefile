@@ -4,14 +4,15 @@
 # make uninstall PREFIX=DIR  takes away what `make install` of the same version and PREFIX put there
 
 PREFIX ?= /usr/local
-VERSION := $(shell cat VERSION)
-SERIES := $(basename $(VERSION))
+DESTDIR ?=
 INSTALL ?= install
 PYTHON ?= python3
-to := $(DESTDIR)$(PREFIX)
-filled = sed -e 's|@PREFIX@|$(PREFIX)|' -e 's|@VERSION@|$(VERSION)|'
-installed := bin/rate lib/libimbrolt.a lib/libimbrolt.so lib/libimbrolt.so.$(SERIES) lib/libimbrolt.so.$(VERSION) \
-	lib/pkgconfig/imbrolt.pc include/imbrolt.h share/man/man1/rate.1
+VERSION := $(shell cat VERSION)
+SERIES := $(basename $(VERSION))
+filled := sed -e "s|@PREFIX@|$$PREFIX|" -e "s|@VERSION@|$(VERSION)|"
+# The shell's, so that no character of it means anything to make.
+to := "$$DESTDIR$$PREFIX"
+export PREFIX DESTDIR
 
 .PHONY: all check install uninstall clean prefix
 
@@ -27,25 +28,26 @@ check: all
 	$(PYTHON) -B -m unittest discover -s tests/packages
 
 install: prefix all
-	$(INSTALL) -d $(addprefix "$(to)"/,bin lib/pkgconfig include share/man/man1)
-	$(INSTALL) -m 755 target/native/rate "$(to)/bin/rate"
-	$(INSTALL) -m 644 target/native/libimbrolt.a "$(to)/lib/libimbrolt.a"
-	$(INSTALL) -m 755 target/native/libimbrolt.so "$(to)/lib/libimbrolt.so.$(VERSION)"
-	ln -sf libimbrolt.so.$(VERSION) "$(to)/lib/libimbrolt.so.$(SERIES)"
-	ln -sf libimbrolt.so.$(SERIES) "$(to)/lib/libimbrolt.so"
-	$(INSTALL) -m 644 include/imbrolt.h "$(to)/include/imbrolt.h"
-	$(filled) build/imbrolt.pc.in > "$(to)/lib/pkgconfig/imbrolt.pc"
-	$(filled) command/rate.1 > "$(to)/share/man/man1/rate.1"
-	chmod 644 "$(to)/lib/pkgconfig/imbrolt.pc" "$(to)/share/man/man1/rate.1"
+	$(INSTALL) -d $(to)/bin $(to)/lib/pkgconfig $(to)/include $(to)/share/man/man1
+	$(INSTALL) -m 755 target/native/rate $(to)/bin/rate
+	$(INSTALL) -m 644 target/native/libimbrolt.a $(to)/lib/libimbrolt.a
+	$(INSTALL) -m 755 target/native/libimbrolt.so $(to)/lib/libimbrolt.so.$(VERSION)
+	ln -sf libimbrolt.so.$(VERSION) $(to)/lib/libimbrolt.so.$(SERIES)
+	ln -sf libimbrolt.so.$(SERIES) $(to)/lib/libimbrolt.so
+	$(INSTALL) -m 644 include/imbrolt.h $(to)/include/imbrolt.h
+	$(filled) build/imbrolt.pc.in > $(to)/lib/pkgconfig/imbrolt.pc
+	$(filled) command/rate.1 > $(to)/share/man/man1/rate.1
+	chmod 644 $(to)/lib/pkgconfig/imbrolt.pc $(to)/share/man/man1/rate.1
 
 uninstall: prefix
-	rm -f $(addprefix "$(to)"/,$(installed))
+	rm -f $(to)/bin/rate $(to)/include/imbrolt.h $(to)/share/man/man1/rate.1 $(to)/lib/pkgconfig/imbrolt.pc
+	rm -f $(to)/lib/libimbrolt.a $(to)/lib/libimbrolt.so $(to)/lib/libimbrolt.so.$(SERIES) $(to)/lib/libimbrolt.so.$(VERSION)
 
-# What stands in the pkg-config file and in links has to be a whole path without characters that mean something there.
+# It stands in the pkg-config file: a path from the root, without characters that mean something there.
 prefix:
-	@case '$(PREFIX)' in \
-	''|[!/]*|*[!A-Za-z0-9/._+@~-]*) \
-		echo "make: PREFIX has to be a path from the root, of letters, digits and / . _ + @ ~ - alone: '$(PREFIX)'" >&2; exit 1;; \
+	@case $$PREFIX in ''|[!/]*|*[!A-Za-z0-9/._+@~-]*) \
+		echo "make: PREFIX has to be a path from the root, of letters, digits and / . _ + @ ~ - alone: '$$PREFIX'" >&2; \
+		exit 1 ;; \
 	esac
 
 clean:

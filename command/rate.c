@@ -9,10 +9,10 @@
 #define _POSIX_C_SOURCE 200809L
 #include "words.h"
 
+#include <ctype.h>
 #include <errno.h>
 #include <fcntl.h>
 #include <poll.h>
-#include <signal.h>
 #include <stdio.h>
 #include <string.h>
 #include <sys/stat.h>
@@ -43,9 +43,15 @@ static bool is_standard_input(const char *file)
     return strcmp(file, "-") == 0;
 }
 
-static const char *title(const char *file)
+/* Names a file on standard error; what would move a terminal's cursor is shown as a question mark. */
+static void put_name(const char *file)
 {
-    return is_standard_input(file) ? "standard input" : file;
+    if (is_standard_input(file))
+        file = "standard input";
+    else if (*file == '\0')
+        file = "''";
+    for (; *file != '\0'; file++)
+        fputc(iscntrl((unsigned char)*file) ? '?' : *file, stderr);
 }
 
 /* Ends the line on which progress is shown. */
@@ -60,13 +66,19 @@ static void complain(const char *about, const char *why)
 {
     failed = true;
     end_progress();
-    fprintf(stderr, "rate: %s: %s\n", about, why);
+    fputs("rate: ", stderr);
+    put_name(about);
+    fprintf(stderr, ": %s\n", why);
 }
 
 static void warn_of_joined_line(const char *before, const char *after)
 {
     end_progress();
-    fprintf(stderr, "rate: %s ends without a line feed: its last line goes on in %s\n", title(before), title(after));
+    fputs("rate: ", stderr);
+    put_name(before);
+    fputs(" ends without a line feed: its last line goes on in ", stderr);
+    put_name(after);
+    fputc('\n', stderr);
 }
 
 /* Shows how many bytes are answered, five times a second at most. */
@@ -80,7 +92,7 @@ static void show_progress(long long answered, bool now)
     if (!now && at < progress.at + 200)
         return;
     progress.at = at;
-    if (progress.given < 0)
+    if (progress.given < answered) /* not known, or a file that does not tell its size */
         fprintf(stderr, "\rrate: %lld bytes answered", answered);
     else
         fprintf(stderr, "\rrate: %lld of %lld bytes answered", answered, progress.given);
@@ -132,7 +144,7 @@ ssize_t __wrap_read(int file, void *bytes, size_t room)
         if (got == 0 && !open_next())
             return ended ? 0 : -1;
         if (got < 0 && !again(input, POLLIN)) {
-            complain(title(name), strerror(errno));
+            complain(name, strerror(errno));
             return -1;
         }
     }
@@ -155,6 +167,23 @@ ssize_t __wrap_write(int file, const void *bytes, size_t count)
     return (ssize_t)count;
 }
 
+/* Adds the bytes of a file to those that are given: standard input once, from where it stands. */
+static void add_to_given(const char *file, const struct stat *status)
+{
+    static bool had_standard_input = false;
+    off_t at = 0;
+    if (is_standard_input(file)) {
+        if (had_standard_input)
+            return;
+        had_standard_input = true;
+        at = lseek(STDIN_FILENO, 0, SEEK_CUR);
+    }
+    if (!S_ISREG(status->st_mode))
+        progress.given = -1;
+    else if (progress.given >= 0 && at < status->st_size)
+        progress.given += status->st_size - at;
+}
+
 /* Why a file cannot be read, as far as that is known before it is opened; NULL where nothing speaks against it. */
 static const char *objection(const char *file, const struct stat *output)
 {
@@ -166,12 +195,11 @@ static const char *objection(const char *file, const struct stat *output)
         return strerror(EISDIR);
     if (!is_standard_input(file) && access(file, R_OK) != 0)
         return strerror(errno);
+    if (!is_standard_input(file) && S_ISSOCK(status.st_mode))
+        return strerror(ENXIO);
     if (S_ISREG(status.st_mode) && status.st_dev == output->st_dev && status.st_ino == output->st_ino)
         return "it is the output, too";
-    if (!S_ISREG(status.st_mode))
-        progress.given = -1;
-    else if (progress.given >= 0)
-        progress.given += status.st_size;
+    add_to_given(file, &status);
     return NULL;
 }
 
@@ -184,30 +212,19 @@ static void look_at(char **files)
     for (; *files != NULL; files++) {
         const char *why = objection(*files, &output);
         if (why != NULL)
-            complain(title(*files), why);
+            complain(*files, why);
     }
-}
-
-/* A closed pipe ends this command as it ends others, also where it was started with that signal ignored. */
-static void end_by_closed_pipe(void)
-{
-    sigset_t closed_pipe;
-    signal(SIGPIPE, SIG_DFL);
-    sigemptyset(&closed_pipe);
-    sigaddset(&closed_pipe, SIGPIPE);
-    sigprocmask(SIG_UNBLOCK, &closed_pipe, NULL);
 }
 
 int __wrap_main(int argc, char **argv)
 {
     (void)argc;
-    end_by_closed_pipe();
     struct words words = take_words(argv);
     look_at(words.files);
     if (failed)
         return 1;
     to_read = words.files;
-    progress.wanted = words.progress && isatty(STDERR_FILENO);
+    progress.wanted = words.progress && isatty(STDERR_FILENO) && !isatty(STDOUT_FILENO);
     __real_main();
     if (!failed && close(STDOUT_FILENO) != 0)
         complain("standard output", strerror(errno));

@@ -1,7 +1,9 @@
 /* Takes in the words given to the command `rate`, and answers those that ask for no rating. */
+#define _POSIX_C_SOURCE 200809L
 #include "words.h"
 
 #include <errno.h>
+#include <signal.h>
 #include <stdio.h>
 #include <stdlib.h>
 #include <string.h>
@@ -13,7 +15,8 @@ static const char HELP[] =
     "Reads request lines, and writes one answer line for each, in order.\n"
     "\n"
     "  FILE        read in turn, as one run; `-`, or no FILE: standard input\n"
-    "  --progress  show on a terminal how many bytes are answered\n"
+    "  --progress  show on a terminal how many bytes are answered, while the\n"
+    "              answers go elsewhere\n"
     "  --help      show this text\n"
     "  --version   show the version\n"
     "  --          what follows are files\n"
@@ -50,8 +53,19 @@ static void take_option(struct words *words, const char *word)
         refuse(word);
 }
 
+/* A closed pipe ends this command as it ends others, also where it was started with that signal ignored. */
+static void end_by_closed_pipe(void)
+{
+    sigset_t closed_pipe;
+    signal(SIGPIPE, SIG_DFL);
+    sigemptyset(&closed_pipe);
+    sigaddset(&closed_pipe, SIGPIPE);
+    sigprocmask(SIG_UNBLOCK, &closed_pipe, NULL);
+}
+
 struct words take_words(char **argv)
 {
+    end_by_closed_pipe();
     struct words words = {argv + 1, false};
     char **end = words.files; /* files are moved together, in their order */
     bool options = true;

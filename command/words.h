@@ -9,7 +9,7 @@ struct words {
     bool progress;
 };
 
-/* Takes the words in. Where they ask for a text (--help, --version), or are none of the command's, it ends the process:
+/* Takes the words in; from then on a closed pipe ends the process. Where they ask for a text (--help, --version), or are none of the command's, it ends the process:
  * status 0, 1 where the text cannot be written, 2 for words that are none. */
 struct words take_words(char **argv);
 

@@ -1,9 +1,10 @@
 /*
  * Imbrolt: sound insulation ratings in whole numbers, from a proved library.
  *
- * Link libimbrolt.a or libimbrolt.so (`pkg-config --cflags --libs imbrolt`). It needs no other
- * library, allocates nothing, keeps no state between calls and may be called from any number of
- * threads at once. A register that a call may change is lent to that call alone.
+ * Link libimbrolt.a or libimbrolt.so (`pkg-config --cflags --libs imbrolt`). It needs memcpy and
+ * memset of the C library and nothing else, allocates nothing, keeps no state between calls and may
+ * be called from any number of threads at once. A register that a call may change is lent to that
+ * call alone.
  *
  * What every function has in common
  *

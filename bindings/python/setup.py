@@ -14,7 +14,11 @@ from setuptools.command.build_py import build_py
 try:
     from setuptools.command.bdist_wheel import bdist_wheel
 except ImportError:  # setuptools before 70.1
-    from wheel.bdist_wheel import bdist_wheel
+    try:
+        from wheel.bdist_wheel import bdist_wheel
+    except ImportError:
+        raise SystemExit("imbrolt: a wheel is built with setuptools 70.1 or later, or with setuptools and wheel:"
+                         " this Python has neither") from None
 
 HERE = Path(__file__).resolve().parent
 BY_MAKE = HERE.joinpath("..", "..", "target", "native", "libimbrolt.so").resolve()

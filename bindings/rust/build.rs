@@ -1,7 +1,7 @@
 //! Finds the archive of the proved library, `libimbrolt.a`, and has it linked.
 
 use std::env;
-use std::path::PathBuf;
+use std::path::{absolute, PathBuf};
 use std::process::{exit, Command};
 
 const ARCHIVE: &str = "libimbrolt.a";
@@ -10,7 +10,8 @@ fn main() {
     for variable in ["IMBROLT_ARCHIVE_DIR", "PKG_CONFIG_PATH", "PKG_CONFIG_LIBDIR"] {
         println!("cargo:rerun-if-env-changed={variable}");
     }
-    let named = env::var_os("IMBROLT_ARCHIVE_DIR").map(PathBuf::from);
+    let named = env::var_os("IMBROLT_ARCHIVE_DIR").filter(|name| !name.is_empty());
+    let named = named.and_then(|name| absolute(name).ok());
     let Some(folder) = folder_of_archive(named.clone()) else {
         eprintln!("{}", what_to_do(named));
         exit(1);
@@ -39,16 +40,25 @@ fn folders_of_repository() -> Vec<PathBuf> {
     crate_folder.ancestors().map(|above| above.join("target/native")).collect()
 }
 
+/// The folder of a library that is installed, if it is of this version but for the last part.
 fn folder_of_install() -> Option<PathBuf> {
+    let part = |name| env::var(name).ok()?.parse::<u32>().ok();
+    let (major, minor) = (part("CARGO_PKG_VERSION_MAJOR")?, part("CARGO_PKG_VERSION_MINOR")?);
+    let from = format!("imbrolt >= {major}.{minor}");
+    let to = format!("imbrolt < {major}.{}", minor + 1);
+    let fits = Command::new("pkg-config").args(["--exists", &from, &to]).status().ok()?;
     let told = Command::new("pkg-config").args(["--variable=libdir", "imbrolt"]).output().ok()?;
     let folder = String::from_utf8(told.stdout).ok()?;
-    told.status.success().then(|| PathBuf::from(folder.trim_end()))
+    fits.success().then(|| PathBuf::from(folder.trim_end()))
 }
 
 fn what_to_do(named: Option<PathBuf>) -> String {
     let sought = match named {
         Some(folder) => format!("in {}, the folder of IMBROLT_ARCHIVE_DIR", folder.display()),
-        None => "in target/native of any folder above, and pkg-config knows of none".to_string(),
+        None => {
+            "in target/native of any folder above, and pkg-config knows of none of this version"
+                .to_string()
+        }
     };
     format!(
         "\

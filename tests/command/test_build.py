@@ -3,6 +3,7 @@
 Each test has a copy of the repository with the program as it is built, and an `rt` that leaves a trace and fails.
 """
 
+import fcntl
 import os
 import shutil
 import subprocess
@@ -73,6 +74,70 @@ class Build(unittest.TestCase):
                 source.write_bytes(before)
                 self.assertEqual(self.rate(), (0, ANSWER, ""))
                 self.assertFalse(self.trace.exists())
+
+    def test_what_no_build_reads_is_no_source(self):
+        for name in ("crates/laws/specs/.Lib.antt.swp", "crates/laws/specs/Lib.antt~", "command/rate.1"):
+            (self.tree / name).write_text("")
+        self.environment["LC_ALL"] = "da_DK.UTF-8"
+        self.assertEqual(self.rate(), (0, ANSWER, ""))
+        self.assertFalse(self.trace.exists())
+
+    def test_what_was_built_of_other_sources_does_not_pass_for_fresh(self):
+        """Not even where they change again during the build, and then back to what they were."""
+        native = self.tree / "target" / "native"
+        words = self.tree / "command" / "words.c"
+        before = words.read_text()
+        words.write_text(before.replace("(Imbrolt)", "(Other)"))
+        fake = self.tree.parent / "kit" / "bin"
+        # a compiler that compiles, and then changes a source
+        (fake / "cc").write_text(f'#!/bin/sh\n/usr/bin/cc "$@" || exit 1\nsleep 0.1\necho "#error" >>"{words}"\n')
+        (fake / "cc").chmod(0o755)
+        done = subprocess.run([self.tree / "build" / "native", "words"], env=self.environment, capture_output=True,
+                              check=False)
+        self.assertEqual(done.returncode, 1)
+        words.write_text(before)
+        (fake / "cc").unlink()
+        self.assertEqual(run("--version", program=native / "words"), run("--version"))
+        self.assertEqual(self.native("--fresh", "words").returncode, 0)
+
+    def native(self, *words, **options):
+        return subprocess.run([self.tree / "build" / "native", *words], env=self.environment, capture_output=True,
+                              text=True, check=False, **options)
+
+    def test_a_library_is_fresh_with_both_of_its_files(self):
+        for name in ("libimbrolt.a", "libimbrolt.so", "library.sum"):
+            shutil.copy2(ROOT / "target" / "native" / name, self.tree / "target" / "native" / name)
+        self.assertEqual(self.native("--fresh", "library").returncode, 0)
+        (self.tree / "target" / "native" / "libimbrolt.so").unlink()
+        self.assertEqual(self.native("--fresh", "library").returncode, 1)
+
+    def test_what_is_fresh_needs_no_lock(self):
+        """Nor to be written: it may be another's."""
+        native = self.tree / "target" / "native"
+        with open(native / "lock", "w") as lock:
+            fcntl.flock(lock, fcntl.LOCK_EX)
+            self.assertEqual(self.native("rate", timeout=60).stdout, f"{native}/rate\n")
+            self.assertEqual(self.rate("--version")[0], 0)
+            (self.tree / "crates.txt").write_text("")
+            self.assertEqual(self.rate("--version")[::2], (0, ""))
+            with self.assertRaises(subprocess.TimeoutExpired) as waiting:
+                self.native("rate", timeout=1)
+        self.assertIn(b"another build is running: waiting for it", waiting.exception.stderr)
+
+    def test_tools_that_are_missing_are_named(self):
+        tools = self.tree.parent / "tools"
+        tools.mkdir()
+        for name in ("sh", "dirname", "readlink", "find", "sort", "sha256sum", "uname", "cat", "mkdir", "tee", "sed",
+                     "rm", "cc", "ar", "flock", "mv"):
+            (tools / name).symlink_to(shutil.which(name))
+        shutil.rmtree(self.tree / "target")
+        self.environment["PATH"] = str(tools)
+        for name in ("cc", "flock", "sha256sum"):
+            (tools / name).unlink()
+            status, answers, messages = self.rate("--version")
+            self.assertEqual((status, answers), (1, b""))
+            self.assertIn(f"build: {name} is needed, and is not on the PATH\n", messages)
+            (tools / name).symlink_to(shutil.which(name))
 
     def test_a_new_and_a_lost_source_are_other_sources(self):
         (self.tree / "crates" / "laws" / "specs" / "New.antt").write_text("")

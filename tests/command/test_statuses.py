@@ -5,7 +5,9 @@ import os
 import pty
 import resource
 import select
+import shutil
 import signal
+import socket
 import subprocess
 import tempfile
 import time
@@ -28,8 +30,39 @@ class Reading(unittest.TestCase):
         """The first bytes of a process are no memory: to open them succeeds, to read them fails."""
         self.assertEqual(run("/proc/self/mem"), (1, b"", "rate: /proc/self/mem: Input/output error\n"))
         status, answers, messages = run("-", "/proc/self/mem", "-", given=LINE)
-        self.assertEqual((status, messages), (1, "rate: /proc/self/mem: Input/output error\n"))
-        self.assertIn(answers, (ANSWER, b""))
+        self.assertEqual((status, answers, messages), (1, ANSWER, "rate: /proc/self/mem: Input/output error\n"))
+
+    @unittest.skipIf(os.getuid(), "only root can become another user")
+    def test_a_file_that_may_not_be_read(self):
+        """It is told before any answer."""
+        with tempfile.TemporaryDirectory() as folder:
+            os.chmod(folder, 0o755)
+            path = Path(folder) / "secret"
+            path.write_bytes(LINE)
+            path.chmod(0o600)
+            program = shutil.copy(RATE, folder)
+            status, answers, messages = run("-", path, program=program, given=LINE,
+                                            preexec_fn=lambda: os.setuid(65534))
+        self.assertEqual((status, answers, messages), (1, b"", f"rate: {path}: Permission denied\n"))
+
+    def test_a_socket(self):
+        with tempfile.TemporaryDirectory() as folder, socket.socket(socket.AF_UNIX) as end:
+            path = f"{folder}/socket"
+            end.bind(path)
+            self.assertEqual(run("-", path, given=LINE), (1, b"", f"rate: {path}: No such device or address\n"))
+
+    def test_names_are_told_without_moving_the_cursor(self):
+        self.assertEqual(run(""), (1, b"", "rate: '': No such file or directory\n"))
+        self.assertEqual(run("/no\n\x1b[2Jsuch"), (1, b"", "rate: /no??[2Jsuch: No such file or directory\n"))
+
+    def test_more_files_than_may_be_open(self):
+        def limit_open_files():
+            resource.setrlimit(resource.RLIMIT_NOFILE, (12, 12))
+
+        with tempfile.TemporaryDirectory() as folder:
+            path = Path(folder) / "requests"
+            path.write_bytes(LINE)
+            self.assertEqual(run(*300 * [path], preexec_fn=limit_open_files), (0, 300 * ANSWER, ""))
 
     def test_standard_input_that_cannot_be_read(self):
         folder = os.open("/", os.O_RDONLY)
@@ -46,6 +79,9 @@ class Reading(unittest.TestCase):
             with open(path, "ab") as output:
                 status, _, messages = run(path, stdout=output)
             self.assertEqual((status, messages), (1, f"rate: {path}: it is the output, too\n"))
+            with open(path, "ab") as output, open(path, "rb") as given:
+                status, _, messages = run(stdin=given, stdout=output)
+            self.assertEqual((status, messages), (1, "rate: standard input: it is the output, too\n"))
             self.assertEqual(path.read_bytes(), LINE)
 
 
@@ -119,11 +155,15 @@ class Pipes(unittest.TestCase):
             self.assertEqual((process.stdout.read(), process.wait()), (b"", 0))
 
     def test_pipes_that_do_not_wait(self):
-        """Both ends are set so that a read or a write fails where it would have to wait."""
+        """Both ends are set so that a read or a write does what it can, or fails, where it would have to wait.
+
+        The output's pipe is short, and its reader slow: most writes write a part of what they are given.
+        """
         ours_in, its_in = os.pipe()[::-1]
         its_out_read, its_out = os.pipe()
         for end in (its_in, its_out):
             fcntl.fcntl(end, fcntl.F_SETFL, fcntl.fcntl(end, fcntl.F_GETFL) | os.O_NONBLOCK)
+        fcntl.fcntl(its_out, fcntl.F_SETPIPE_SZ, 4096)
         process = subprocess.Popen([RATE], stdin=its_in, stdout=its_out, stderr=subprocess.PIPE)
         os.close(its_in)
         os.close(its_out)
@@ -136,19 +176,24 @@ class Pipes(unittest.TestCase):
             os._exit(0)
         os.close(ours_in)
         time.sleep(0.3)
-        with open(its_out_read, "rb") as answers:
-            self.assertEqual(answers.read(), ANSWERS)
+        answers, part = b"", b"."
+        while part:
+            part = os.read(its_out_read, 1777)
+            answers += part
+        os.close(its_out_read)
         self.assertEqual((process.stderr.read(), process.wait()), (b"", 0))
         process.stderr.close()
         os.wait()
+        self.assertEqual(answers, ANSWERS)
 
 
 class Progress(unittest.TestCase):
-    def on_terminal(self, *words, **options):
+    def on_terminal(self, *words, answers_too=False, **options):
         """The status, and what a terminal on standard error shows."""
         ours, its = pty.openpty()
         with tempfile.TemporaryFile() as output:
-            process = subprocess.Popen([RATE, *map(str, words)], stdout=output, stderr=its, **options)
+            process = subprocess.Popen([RATE, *map(str, words)], stdout=its if answers_too else output, stderr=its,
+                                       **options)
             os.close(its)
             shown = b""
             while True:
@@ -206,6 +251,27 @@ class Progress(unittest.TestCase):
         status, shown = self.on_terminal("--progress", STORED / "stdin", "/proc/self/mem")
         self.assertEqual(status, 1)
         self.assertTrue(shown.endswith("\r\nrate: /proc/self/mem: Input/output error\r\n"), shown)
+
+    def test_what_is_given(self):
+        """Standard input counts once, from where it stands; a file that does not tell its size is not counted."""
+        with tempfile.NamedTemporaryFile() as file:
+            file.write(3 * LINE)
+            file.flush()
+            for words in (("--progress",), ("--progress", "-", "-"), ("-", "--progress")):
+                with open(file.name, "rb", buffering=0) as given:
+                    given.seek(len(LINE))
+                    status, shown = self.on_terminal(*words, stdin=given)
+                self.assertEqual(status, 0)
+                self.assertEqual(shown.split("\r")[-2:], [f"rate: {2 * len(LINE)} of {2 * len(LINE)} bytes answered", "\n"])
+        status, shown = self.on_terminal("--progress", "/proc/version")
+        self.assertRegex(shown, r"\rrate: [1-9]\d* bytes answered\r\n\Z")
+
+    def test_nothing_is_shown_among_the_answers(self):
+        with tempfile.NamedTemporaryFile() as file:
+            file.write(LINE)
+            file.flush()
+            self.assertEqual(self.on_terminal("--progress", file.name, answers_too=True),
+                             (0, self.on_terminal(file.name, answers_too=True)[1]))
 
     def test_nothing_is_shown_unasked_or_where_there_is_no_terminal(self):
         self.assertEqual(self.on_terminal(STORED / "stdin"), (0, ""))

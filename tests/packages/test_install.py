@@ -97,7 +97,7 @@ class Install(unittest.TestCase):
 
     def test_a_staged_install(self):
         """DESTDIR stands before the PREFIX, and is seen in no file."""
-        stage = self.folder / "stage"
+        stage = self.folder / """a stage's "folder" `here`"""
         self.assertEqual(make("install", f"DESTDIR={stage}", "PREFIX=/opt/imbrolt").returncode, 0)
         self.assertEqual(names_below(stage / "opt/imbrolt"), {*FILES, *LINKS})
         config = (stage / "opt/imbrolt/lib/pkgconfig/imbrolt.pc").read_text()
@@ -106,7 +106,7 @@ class Install(unittest.TestCase):
         self.assertEqual(names_below(stage), set())
 
     def test_a_prefix_that_is_none(self):
-        for prefix in ("", "here", "/tmp/a b", "/tmp/a|b", "~"):
+        for prefix in ("", "here", "/tmp/a b", "/tmp/a|b", "~", "/tmp/a'b", '/tmp/a"b', "/tmp/`b`"):
             done = make("install", f"PREFIX={prefix}", f"DESTDIR={self.folder}/none")
             self.assertNotEqual(done.returncode, 0, prefix)
             self.assertIn("PREFIX has to be a path from the root", done.stderr)

@@ -1,7 +1,6 @@
-"""Calls, refusals and sentences are the same on every surface: desk, header, Rust, Python, the pages; and one version."""
+"""Calls, refusals and sentences are the same on every surface: desk, header, Rust, Python, the pages."""
 
 import re
-import subprocess
 import sys
 import unittest
 from pathlib import Path
@@ -44,9 +43,12 @@ class Refusals(unittest.TestCase):
     def test_python(self):
         self.assertEqual({refusal.value: (refusal.name, refusal.sentence) for refusal in imbrolt.Refusal}, self.header)
 
-    def test_plain_rust(self):
-        lines = found(r"^pub const (\w+): u32 = (\d+);$", "tests/plain/src/refusal.rs")
-        self.assertEqual({int(number): word for word, number in lines}, self.refusals)
+    def test_other_readings(self):
+        """The plain implementation and the reference."""
+        plain = found(r"^pub const (\w+): u32 = (\d+);$", "tests/plain/src/refusal.rs")
+        head = text_of("tests/reference/paper/quantities.py").partition("class Refused")[0]
+        for lines in (plain, re.findall(r"^([A-Z_]+) = (\d+)$", head, flags=re.M)):
+            self.assertEqual({int(number): word for word, number in lines}, self.refusals)
 
     def test_pages(self):
         """README's table has number, word and sentence of each."""
@@ -87,33 +89,9 @@ class Calls(unittest.TestCase):
 
     def test_pages(self):
         self.assertEqual(set(found(r"^### `(\w+)\(", "docs/API.md")), self.calls)
-        rows = found(r"^\| ((?:`\w+`(?:, )?)+) \| [a-z]", "README.md")
-        named = {name for row in rows for name in re.findall(r"\w+", row)}
-        self.assertEqual(self.calls - named, set())
-
-
-class Version(unittest.TestCase):
-    def test_one_place(self):
-        """Every copy is that of VERSION, and what is built says the same."""
-        done = subprocess.run([ROOT / "build" / "version", "--check"], capture_output=True, text=True, check=False)
-        self.assertEqual((done.returncode, done.stdout, done.stderr), (0, "", ""))
-        major, minor, patch = map(int, text_of("VERSION").split("."))
-        self.assertEqual(imbrolt.version(), 10000 * major + 100 * minor + patch)
-        self.assertEqual(imbrolt.__version__, text_of("VERSION").strip())
-
-    def test_the_changes_begin_with_it(self):
-        self.assertEqual(found(r"^## (\d+\.\d+\.\d+)", "docs/CHANGES.md")[:1], [text_of("VERSION").strip()])
-
-
-class Examples(unittest.TestCase):
-    def test_the_readme_shows_what_the_command_answers(self):
-        """Each request of its lines, beside its answer."""
-        rows = re.findall(r"^((?:A|I)[13]<T>\S+) +(\S+)$", text_of("README.md"), flags=re.M)
-        self.assertEqual(len(rows), 2)
-        given = "".join(request + "\n" for request, _ in rows).replace("<T>", "\t")
-        done = subprocess.run([ROOT / "target" / "native" / "rate"], input=given, capture_output=True, text=True,
-                              check=True)
-        self.assertEqual(done.stdout, "".join(answer + "\n" for _, answer in rows).replace("<T>", "\t"))
+        table = text_of("README.md").partition("| call | what it answers |")[2].partition("\n\n")[0]
+        rows = re.findall(r"^\| (`.*?`) \|", table, flags=re.M)
+        self.assertEqual({name for row in rows for name in re.findall(r"\w+", row)}, self.calls)
 
 
 if __name__ == "__main__":

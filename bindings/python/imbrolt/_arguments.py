@@ -73,13 +73,15 @@ def offset_of(number: SupportsIndex) -> int:
 
 
 def real(value: SupportsFloat) -> float:
-    """A float; infinite, which every call refuses, where the number is too great for one."""
+    """A float; what no float can be is one that every call refuses: infinite where it is too great."""
     if not isinstance(value, SupportsFloat):
         raise TypeError(f"a real number is asked for, not {type(value).__name__}")
     try:
         return float(value)
     except OverflowError:
         return math.inf
+    except ValueError:  # a decimal number's signalling NaN
+        return math.nan
 
 
 # Arrays, each with its length.

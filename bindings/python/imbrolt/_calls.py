@@ -136,6 +136,8 @@ def answers(stream: BinaryIO) -> Iterator[bytes]:
     output = bytearray(BLOCK)
     while not last:
         data = stream.read(BLOCK)
+        if data is None:
+            raise BlockingIOError("the stream does not wait for what is still to come")
         rest, last = rest + data, not data
         used = wrote = 1
         while used or wrote:

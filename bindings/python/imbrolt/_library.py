@@ -69,13 +69,22 @@ def own_files() -> list[Path]:
 
 
 def of_the_system() -> Optional[ctypes.CDLL]:
-    """The library that the system finds by its name, if it does."""
-    for name in filter(None, (find_library("imbrolt"), NAME)):
+    """The library that the system finds by its name, if it does: that of this version first."""
+    series = __version__.rpartition(".")[0]
+    for name in filter(None, (f"{NAME}.{series}", find_library("imbrolt"), NAME)):
         try:
             return ctypes.CDLL(name)
         except OSError:
             continue
     return None
+
+
+def loaded(file: Path) -> ctypes.CDLL:
+    """The library of a file."""
+    try:
+        return ctypes.CDLL(str(file))
+    except OSError as error:
+        raise LibraryMismatch(f"{file} cannot be loaded: {error}. {HELP}") from error
 
 
 def found() -> ctypes.CDLL:
@@ -84,7 +93,7 @@ def found() -> ctypes.CDLL:
     files = [Path(named).absolute()] if named else own_files()
     for file in files:
         if file.is_file():
-            return ctypes.CDLL(str(file))
+            return loaded(file)
     if named:
         raise LibraryNotFound(f"no {NAME}: IMBROLT_LIBRARY names {named}, which is no file. {HELP}")
     library = of_the_system()

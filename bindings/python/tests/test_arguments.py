@@ -175,10 +175,10 @@ class Numbers(unittest.TestCase):
         for value in (24, Decimal("24"), Fraction(24), Tenths(24), 24.04):
             self.assertEqual(imbrolt.take_reading(level(value)).tenths, 240)
 
-    def test_too_great_for_a_float(self):
-        """Infinite, so that it is refused, and no error of Python's."""
+    def test_no_finite_float(self):
+        """What is too great becomes infinite: refused, and no error of Python's."""
         for value in (1e39, -1e39, 1e308, 10 ** 400, -10 ** 400, Fraction(10 ** 400),
-                      Decimal("1e400")):
+                      Decimal("1e400"), Decimal("sNaN"), float("nan")):
             for call in REAL:
                 self.assertIs(refusal_of(call, value), Refusal.NOT_FINITE)
 

@@ -151,6 +151,14 @@ class Lines(unittest.TestCase):
 
 
 class Quantities(unittest.TestCase):
+    def test_a_stream_that_does_not_wait(self):
+        class Waiting(io.RawIOBase):
+            def read(self, _size=-1):
+                return None
+
+        with self.assertRaises(BlockingIOError):
+            list(imbrolt.answers(Waiting()))
+
     def test_answers_say_their_quantity(self):
         sheet = imbrolt.rate(Kind.A1, DOOR)
         for number in (sheet.rating, sheet.first, sheet.second):

@@ -87,6 +87,16 @@ class Places(unittest.TestCase):
                           LD_LIBRARY_PATH=str(library.parent))
             self.assertEqual(said, self.version)
 
+    def test_of_the_system_by_this_version(self):
+        """Beside one of another version, which is no library at all here."""
+        place = self.package_in("site")
+        library = Path(self.library_in("lib"))
+        series = imbrolt.__version__.rpartition(".")[0]
+        library.rename(f"{library}.{series}")
+        library.write_text("")
+        said = python("-c", VERSION, path=place, IMBROLT_LIBRARY=None, LD_LIBRARY_PATH=str(library.parent))
+        self.assertEqual(said, self.version)
+
     def test_named(self):
         """By a name that is not whole, too; and then from nowhere else."""
         place = self.package_in("site")
@@ -128,7 +138,8 @@ class Others(unittest.TestCase):
             self.load(_ctypes.__file__)
 
     def test_no_library(self):
-        with self.assertRaisesRegex(OSError, "test_library.py"):
+        """A file that is none is told by its name, with what to do."""
+        with self.assertRaisesRegex(imbrolt.LibraryMismatch, "test_library.py cannot be loaded: .*Run `make`"):
             self.load(__file__)
 
     def test_errors_of_the_system(self):
