@@ -1,8 +1,9 @@
 """bin/rate builds what it runs: again when the sources have changed, by their sum, and only then.
 
-Each test has a copy of the repository with the program as it is built, and an `rt` that leaves a trace and fails.
+Each test has a copy of the repository, and a toolchain whose `rt` proves nothing.
 """
 
+import ctypes
 import fcntl
 import os
 import shutil
@@ -17,35 +18,47 @@ SOURCES = ("bin", "build", "command", "crates", "crates.txt", "VERSION")
 BUILT = ("rate", "rate.sum", "words", "words.sum")
 
 
-class Build(unittest.TestCase):
+class Copied(unittest.TestCase):
     def setUp(self):
         folder = tempfile.TemporaryDirectory()
         self.addCleanup(folder.cleanup)
-        self.tree = Path(folder.name) / "tree"
+        self.tree, self.kit = Path(folder.name) / "tree", Path(folder.name) / "kit"
         self.tree.mkdir()
         for name in SOURCES:
             source = ROOT / name
             (shutil.copytree if source.is_dir() else shutil.copy2)(source, self.tree / name)
+        for place in ("bin", "on/aarch64/toolchain/bin", "on/x86_64/toolchain/bin"):
+            (self.kit / place).mkdir(parents=True)
+        self.environment = {**os.environ, "PATH": f"{self.kit}/bin:{os.environ['PATH']}"}
+        self.environment.pop("RATTLE_HOME", None)
+
+    def make_tool(self, name, script):
+        """A command that is found before all others."""
+        tool = self.kit / "bin" / name
+        tool.write_text(f"#!/bin/sh\n{script}\n")
+        tool.chmod(0o755)
+        return tool
+
+    def rate(self, *words, given=LINE):
+        return run(*words, program=self.tree / "bin" / "rate", given=given, env=self.environment)
+
+    def native(self, *words, **options):
+        return subprocess.run([self.tree / "build" / "native", *words], env=self.environment, capture_output=True,
+                              text=True, check=False, **options)
+
+
+class Build(Copied):
+    """What is built here is in the copy, too; rt says that it was called, and fails."""
+
+    def setUp(self):
+        super().setUp()
         subprocess.run([ROOT / "build" / "native", "words"], check=True, capture_output=True)
         native = self.tree / "target" / "native"
         native.mkdir(parents=True)
         for name in BUILT:
             shutil.copy2(ROOT / "target" / "native" / name, native / name)
-        self.make_rt(Path(folder.name) / "kit")
-
-    def make_rt(self, kit):
-        """A kit whose rt says that it was called, and fails."""
-        for place in ("bin", "on/aarch64/toolchain/bin", "on/x86_64/toolchain/bin"):
-            (kit / place).mkdir(parents=True)
-        self.trace = kit / "trace"
-        rt = kit / "bin" / "rt"
-        rt.write_text(f'#!/bin/sh\necho "$@" >>"{self.trace}"\necho "rt: laws NOT PROVED"\nexit 1\n')
-        rt.chmod(0o755)
-        self.environment = {**os.environ, "PATH": f"{kit}/bin:{os.environ['PATH']}"}
-        self.environment.pop("RATTLE_HOME", None)
-
-    def rate(self, *words, given=LINE):
-        return run(*words, program=self.tree / "bin" / "rate", given=given, env=self.environment)
+        self.trace = self.kit / "trace"
+        self.make_tool("rt", f'echo "$@" >>"{self.trace}"\necho "rt: laws NOT PROVED"\nexit 1')
 
     def test_what_is_built_runs(self):
         self.assertEqual(self.rate(), (0, ANSWER, ""))
@@ -88,21 +101,12 @@ class Build(unittest.TestCase):
         words = self.tree / "command" / "words.c"
         before = words.read_text()
         words.write_text(before.replace("(Imbrolt)", "(Other)"))
-        fake = self.tree.parent / "kit" / "bin"
-        # a compiler that compiles, and then changes a source
-        (fake / "cc").write_text(f'#!/bin/sh\n/usr/bin/cc "$@" || exit 1\nsleep 0.1\necho "#error" >>"{words}"\n')
-        (fake / "cc").chmod(0o755)
-        done = subprocess.run([self.tree / "build" / "native", "words"], env=self.environment, capture_output=True,
-                              check=False)
-        self.assertEqual(done.returncode, 1)
+        compiler = self.make_tool("cc", f'{shutil.which("cc")} "$@" || exit 1\necho "#error" >>"{words}"')
+        self.assertEqual(self.native("words").returncode, 1)
         words.write_text(before)
-        (fake / "cc").unlink()
+        compiler.unlink()
         self.assertEqual(run("--version", program=native / "words"), run("--version"))
         self.assertEqual(self.native("--fresh", "words").returncode, 0)
-
-    def native(self, *words, **options):
-        return subprocess.run([self.tree / "build" / "native", *words], env=self.environment, capture_output=True,
-                              text=True, check=False, **options)
 
     def test_a_library_is_fresh_with_both_of_its_files(self):
         for name in ("libimbrolt.a", "libimbrolt.so", "library.sum"):
@@ -168,6 +172,43 @@ class Build(unittest.TestCase):
         link = self.tree.parent / "link"
         link.symlink_to(self.tree / "bin" / "rate")
         self.assertEqual(run(program=link, given=LINE, cwd="/", env=self.environment), (0, ANSWER, ""))
+
+
+class OnX86(Copied):
+    """Where the machine gives itself out for x86-64, what the toolchain made is taken as it is."""
+
+    def setUp(self):
+        super().setUp()
+        native = ROOT / "target" / "native"
+        objects = (native / "rate.o", ROOT / "target" / "obj" / "rate.o")  # of this machine: the first that is there
+        self.version = (ROOT / "VERSION").read_text().strip()
+        shutil.copy2(native / f"imbrolt-{self.version}.o", self.kit / "desk_c.o")
+        shutil.copy2(next(file for file in objects if file.exists()), self.kit / "rate.o")
+        self.make_tool("uname", "echo x86_64")
+        self.make_tool("rt", f"""
+mkdir -p target/obj target/staticlib
+case "$1 $2" in
+"check rate") cp "{self.kit}/rate.o" target/obj/rate.o ;;
+"staticlib desk_c") ar rcs target/staticlib/libdesk_c.a "{self.kit}/desk_c.o" ;;
+esac
+echo "rt: ok"
+""")
+
+    def test_command(self):
+        status, answers, messages = self.rate()
+        self.assertEqual((status, answers), (0, ANSWER))
+        self.assertIn("rt: ok\n", messages)
+        self.assertEqual(self.rate(), (0, ANSWER, ""))
+
+    def test_library(self):
+        built = self.native("library")
+        archive = self.tree / "target" / "native" / "libimbrolt.a"
+        self.assertEqual((built.returncode, built.stdout), (0, f"{archive}\n"))
+        listed = subprocess.run(["ar", "t", archive], capture_output=True, text=True, check=True)
+        self.assertEqual(listed.stdout, f"imbrolt-{self.version}.o\n")
+        library = ctypes.CDLL(str(archive.with_name("libimbrolt.so")))
+        major, minor, patch = map(int, self.version.split("."))
+        self.assertEqual(library.imbrolt_version(), 10000 * major + 100 * minor + patch)
 
 
 if __name__ == "__main__":

