@@ -157,7 +157,9 @@ ssize_t __wrap_write(int file, const void *bytes, size_t count)
         return (ssize_t)count;
     for (size_t done = 0; done < count;) {
         ssize_t put = __real_write(file, (const char *)bytes + done, count - done);
-        if (put >= 0) {
+        if (put == 0)
+            errno = EIO; /* nothing was written, and no reason given */
+        if (put > 0) {
             done += (size_t)put;
         } else if (!again(file, POLLOUT)) {
             complain("standard output", strerror(errno));

@@ -26,7 +26,7 @@ def height(name, below):
 class Picture(unittest.TestCase):
     def setUp(self):
         page = (ROOT / "CONTRIBUTING.md").read_text()
-        (self.picture,) = (block for block in re.findall(r"^```\n(.*?)^```$", page, flags=re.M | re.S) if "->" in block)
+        (self.picture,) = (block for block in re.findall(r"^```\n(.*?)^```$", page, flags=re.M | re.S) if "quantity -> laws" in block)
 
     def test_crates(self):
         """Each crate once, at its height, with what it stands on but for what that stands on itself."""
