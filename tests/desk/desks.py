@@ -4,6 +4,7 @@ import importlib.util
 import os
 import signal
 import sys
+from contextlib import suppress
 from pathlib import Path
 from typing import NamedTuple
 
@@ -59,7 +60,9 @@ class Running:
         self.answers = os.fdopen(self.output, "rb")
 
     def send(self, data):
-        os.write(self.input, data)
+        """Sends lines. To a desk that has ended nothing can be sent: that is noticed by the missing answers."""
+        with suppress(BrokenPipeError):
+            os.write(self.input, data)
 
     def answer(self):
         """The next answer line, when it is there."""
