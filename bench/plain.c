@@ -56,11 +56,11 @@ static double total_deficit(const struct kind *kind, const double *values, doubl
     return total;
 }
 
-/* To a whole tenth and then to a whole decibel, half going up. */
+/* To a whole tenth, half going up, and then to a whole decibel, half going to the even one. */
 static int rounded(double decibels)
 {
     double tenths = floor(10 * decibels + 0.5);
-    return (int)floor((tenths + 5) / 10);
+    return (int)nearbyint(tenths / 10);
 }
 
 static double energies(const struct kind *kind, const double *values, const double *spectrum)

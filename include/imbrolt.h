@@ -12,6 +12,9 @@
  *   Units          Measured values and levels are whole tenths of a decibel, in -200..1500. Ratings,
  *                  targets and terms are whole decibels, prices whole fen. Nothing converts between
  *                  them unasked.
+ *   Terms          Each term comes in tenths and is rounded to a whole decibel by GB 8170: a half goes
+ *                  to the even whole number, by size and with the sign put back (0.5 gives 0, 1.5 gives
+ *                  2, -1.5 gives -2). What is made of a rounded term is not rounded again.
  *   Arrays         An array is a pointer and, right after it, the number of its elements (not of
  *                  bytes). No element is touched past that number; where it is 0 the pointer is not
  *                  followed and may be NULL. Arrays lent to one call must not overlap each other
@@ -37,8 +40,8 @@ extern "C" {
 #endif
 
 /* The version of this header. That of the library that is linked is imbrolt_version(). */
-#define IMBROLT_VERSION 200 /* 10000 times the first part, 100 times the second, plus the third */
-#define IMBROLT_VERSION_TEXT "0.2.0"
+#define IMBROLT_VERSION 300 /* 10000 times the first part, 100 times the second, plus the third */
+#define IMBROLT_VERSION_TEXT "0.3.0"
 
 /* The most bytes of a request line and of an answer line, with their line feeds. */
 #define IMBROLT_LINE_MAX 512

@@ -3,8 +3,8 @@
     python3 tests/reference/test_reference.py
 
 Every pencil check, example and slip of document 01, the laws behind the
-numbers, the worked example of ISO 717-1, and the register of document 02. The
-last line counts the tests.
+numbers, the worked example of ISO 717-1, and of document 02 the rounding and
+the register. The last line counts the tests.
 """
 
 import struct
@@ -23,13 +23,13 @@ from paper.lines import (
     KEY, answer_line, answer_line_into, answers_of, band_of_text, request_of_line)
 from paper.quantities import (
     A1, A3, BandSet, I1, I3, KINDS, LEVEL, LIMIT, MISSING, Reading, Refused)
-from paper.rating import position_of, rating_of, sheet_of, total_deficit
+from paper.rating import position_of, rating_of, sheet_of, terms_in_tenths, total_deficit
 from inputs import inputs_of
 from inputs.curves import bits_nearest, measured
 from inputs.histories import histories, taken
 from inputs.ratings import (
-    ISO_EXAMPLE, any_value_set, mixed_ends_set, near_limit_set, near_whole_mean_set, pencil_set,
-    small_value_set)
+    ISO_EXAMPLE, TIED_SHEETS, any_value_set, mixed_ends_set, near_limit_set, near_whole_mean_set,
+    pencil_set, small_value_set)
 from inputs.readings import INFINITE_BITS, NAN_BITS, SMALL_BITS
 from inputs.requests import (
     any_key, level_text, line_of, line_of_length, line_of_texts, request_data, whole_example)
@@ -277,10 +277,28 @@ def test_k_pencil_and_powers():
         assert Fraction(10) ** (2 * k - 1) <= ratio < Fraction(10) ** (2 * k + 1), T
 
 
-def test_terms_are_rounded_half_up():
-    for tenths, decibels in ((-15, -1), (5, 1), (-5, 0), (-16, -2), (-6, -1), (4, 0), (14, 1),
-                             (15, 2), (-14, -1), (-25, -2), (0, 0)):
+def half_up(tenths):
+    """Document 01's rounding of a term, before request (ii) of document 02."""
+    return (tenths + 5) // 10
+
+
+def test_terms_are_rounded_to_the_even():
+    for tenths, decibels in ((5, 0), (-15, -2), (25, 2), (15, 2), (-5, 0), (-25, -2), (0, 0),
+                             (4, 0), (6, 1), (-4, 0), (-6, -1), (14, 1), (16, 2), (-14, -1),
+                             (-16, -2)):
         same(energies.whole_decibels(tenths), decibels, tenths)
+    for tenths in range(-1200, 1201):
+        decibels = energies.whole_decibels(tenths)
+        assert abs(10 * decibels - tenths) <= 5, "the nearest"
+        assert tenths % 10 != 5 or decibels % 2 == 0, "of two that are as near the even one"
+        same(energies.whole_decibels(-tenths), -decibels, "by size and with the sign put back")
+
+
+def test_rounding_differs_from_half_up_at_odd_ties_alone():
+    """Exactly where half up gives an odd number at a tie, and is then one less."""
+    for tenths in range(-1200, 1201):
+        odd_tie = tenths % 10 == 5 and half_up(tenths) % 2 == 1
+        same(energies.whole_decibels(tenths), half_up(tenths) - odd_tie, tenths)
 
 
 def level_of(energy):
@@ -384,6 +402,15 @@ def test_pencil_ratings():
     same(rating_of(A3, pencil_set({6: -80, 7: -80})), 51, "400 and 500 Hz 8 dB down")
 
 
+def test_pencil_sheets_with_a_tie():
+    """0.5, -1.5 and 2.5 dB, where they stand; half up they would give 1, -1 and 3."""
+    terms = ([-8, 5], [-15, -39], [25])
+    sheets = ((49, -1, 0, 6), (51, -2, -4, 2), (54, 2, None, 23))
+    for (kind, values), tenths, numbers in zip(TIED_SHEETS, terms, sheets, strict=True):
+        same(terms_in_tenths(kind, values, rating_of(kind, values)), tenths, kind.name)
+        same(sheet_numbers(kind, values), numbers, kind.name)
+
+
 def test_worked_example_of_iso_717_1():
     sheet = sheet_of(A3, whole_set(ISO_EXAMPLE))
     same((sheet.rating, sheet.first, sheet.second), (30, -2, -3))
@@ -466,6 +493,15 @@ def test_slip_C_and_Ctr_exchanged():
     sheet = sheet_of(A1, whole_set((240, 330, 400, 430, 440)))
     differ((sheet.second, sheet.first), (-2, -6))
     same((sheet.first, sheet.second), (-2, -6))
+
+
+def test_slip_deciding_number_rounded_after_the_sum():
+    kind, values = TIED_SHEETS[0]
+    rated = rating_of(kind, values)
+    ctr = terms_in_tenths(kind, values, rated)[1]
+    same(energies.whole_decibels(10 * rated + ctr), 50, "the slip: 49.5")
+    readings = 3 * [level(Fraction(tenths, 10)) for tenths in values]
+    same(rooms.grade(rooms.OUTSIDE, readings, 48).deciding, 49, "49 and 0")
 
 
 # Rooms.
@@ -567,7 +603,7 @@ def test_cover_pencil():
 
 
 def test_cover_rounds_the_impact_term_first():
-    """Somewhere rounding last gives another term."""
+    """By GB 8170 rounding last gives the same term; half up it would not, at a tie."""
     seeded = Seeded(9)
     others = 0
     for _ in range(200):
@@ -576,9 +612,10 @@ def test_cover_rounds_the_impact_term_first():
         rated = rating_of(I3, derived)
         tenths = energies.impact_term_tenths(derived, rated)
         term = rooms.cover(whole_set(values)).term
-        same(term, -((tenths + 5) // 10 + 10), values)
-        others += energies.whole_decibels(-(tenths + 100)) != term
-    assert others > 0, "no example told them apart"
+        same(term, -(energies.whole_decibels(tenths) + 10), values)
+        same(term, energies.whole_decibels(-(tenths + 100)), values)
+        others += term != half_up(-(tenths + 100))
+    assert others > 0, "no example has a tie"
 
 
 def test_cover_refusals():
@@ -1272,6 +1309,42 @@ def test_inputs_meet_every_tie():
     for eighths in range(1, 160, 2):
         centre = bits_nearest(Fraction(eighths, 8))
         assert {centre - 1, centre, centre + 1} <= bits, eighths
+
+
+def values_of_case(operation, *numbers):
+    """The kind and the values whose sheet a case of a rating, a cover or a grade asks for."""
+    if operation == 1:
+        kind = KINDS[numbers[0]]
+        return kind, numbers[3:3 + kind.bands]
+    if operation == 10:
+        return I3, [floor - one for floor, one in zip(rooms.REFERENCE_FLOOR, numbers[2:])]
+    readings = [Reading(*pair) for pair in zip(numbers[2::2], numbers[3::2])]
+    return A3, rooms.specimens(readings, numbers[1]).values
+
+
+def test_inputs_try_the_rounding_of_terms():
+    """Enough stored sheets have a tie that half up would round otherwise, in every term."""
+    C_Ctr_thirds, C_Ctr_octaves = {(A3, 0), (A3, 1)}, {(A1, 0), (A1, 1)}
+    impact = {(I3, 0), (I1, 0)}
+    for operation, least, places in ((1, 100, C_Ctr_thirds | C_Ctr_octaves | impact),
+                                     (10, 10, {(I3, 0)}), (11, 5, C_Ctr_thirds)):
+        sheets = tied = other = 0
+        met = set()
+        for case in inputs_of(operation):
+            if answer_of_case(case)[0] != 0:
+                continue
+            kind, values = values_of_case(*case)
+            terms = terms_in_tenths(kind, values, rating_of(kind, values))
+            odd = {(kind, place) for place, tenths in enumerate(terms)
+                   if energies.whole_decibels(tenths) != half_up(tenths)}
+            sheets += 1
+            tied += any(tenths % 10 == 5 for tenths in terms)
+            other += bool(odd)
+            met |= odd
+        print(f"operation {operation}: {sheets} sheets, {tied} with a tie, "
+              f"{other} that half up would give otherwise")
+        assert other >= least, operation
+        same(met, places, operation)
 
 
 def test_case_lines():

@@ -127,7 +127,10 @@ class Value(NamedTuple):
 
 
 class Sheet(NamedTuple):
-    """What a rating answers; impact has no second term."""
+    """What a rating answers; impact has no second term.
+
+    Terms are rounded to a whole decibel, a half to the even one (GB 8170).
+    """
 
     rating: Decibels
     first: Decibels

@@ -5,7 +5,7 @@ unfoldable pub major : ℕ
 major = 0
 
 unfoldable pub minor : ℕ
-minor = 2
+minor = 3
 
 unfoldable pub patch : ℕ
 patch = 0

@@ -2,9 +2,9 @@
 ghost use mathlib.Core.Path.{_≡_};
 ghost use Rattle.desk.specs.Version.{versionNumber};
 
-// Ten thousand times the first part of the version, a hundred times the second, and the third.
-const NUMBER: u32 = 200;
+const NUMBER: u32 = 300;
 
+// Ten thousand times the first part of the version, a hundred times the second, and the third.
 pub fn version() -> u32
     ensures { λ r. ⌜ r ≡ versionNumber ⌝ }
 {

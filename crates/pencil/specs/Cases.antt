@@ -1,4 +1,5 @@
--- Document 01, "Pencil checks": the cases marked P, as one table over the definitions. Each row is a claim that is computed.
+-- Document 01, "Pencil checks": the cases marked P, as one table over the definitions, with the ties of document 02, request (ii).
+-- Each row is a claim that is computed.
 use mathlib.Core.Bool.{false}
 use mathlib.Core.List.{List, [], _∷_, _++_, map}
 use mathlib.Core.Path.{_≡_}
@@ -11,15 +12,17 @@ use Rattle.quantity.specs.declared.quantities.BandSet.{BandSet}
 use Rattle.energy.specs.Corrections.{c, k}
 use Rattle.kinds.specs.declared.kinds.Kind.{Kind}
 use Rattle.kinds.specs.declared.kinds.Kind.the-variants.{A3, A1, I3}
+use Rattle.kinds.specs.Kinds.{C, Ctr}
 use Rattle.rating.specs.declared.sheets.Term.{Term}
 use Rattle.rating.specs.declared.sheets.Term.the-variants.{Given, Absent}
 use Rattle.rating.specs.declared.sheets.Rated.the-variants.{Rating, Refused}
 use Rattle.rating.specs.Curve.{total, ratingOf}
+use Rattle.rating.specs.Terms.{airborneTerm, impactTerm}
 use Rattle.rating.specs.Sheets.{ratedOf, decibels}
 use Rattle.lift.specs.Reach.{liftList}
 use Rattle.products.specs.declared.covers.Cover.the-variants.{Improvement}
 use Rattle.products.specs.Covers.{coverOf}
-use Rattle.quantity.specs.Quantities.{tenths, nought}
+use Rattle.quantity.specs.Quantities.{tenths, nought, halfEven}
 
 -- bands from the lowest, in tenths
 abbrev pub Bands : Type 0
@@ -66,6 +69,16 @@ dipped = pos 310 ∷ pos 340 ∷ pos 370 ∷ pos 400 ∷ pos 430 ∷ pos 460 ∷
 abbrev pub twice-dipped : Bands
 twice-dipped = pos 310 ∷ pos 340 ∷ pos 370 ∷ pos 400 ∷ pos 430 ∷ pos 460 ∷ pos 410 ∷ pos 420 ∷ pos 510 ∷ pos 520 ∷ pos 530 ∷ pos 540 ∷ pos 540 ∷ pos 540 ∷ pos 540 ∷ pos 540 ∷ []
 
+-- 50.0 with the last of sixteen thirds at 43.0; 50.0 with the lowest of five octaves at 36.0; 68.0, twice 66.0, then 30.0
+abbrev pub last-weak : Bands
+last-weak = pos 500 ∷ pos 500 ∷ pos 500 ∷ pos 500 ∷ pos 500 ∷ pos 500 ∷ pos 500 ∷ pos 500 ∷ pos 500 ∷ pos 500 ∷ pos 500 ∷ pos 500 ∷ pos 500 ∷ pos 500 ∷ pos 500 ∷ pos 430 ∷ []
+
+abbrev pub lowest-weak : Bands
+lowest-weak = pos 360 ∷ pos 500 ∷ pos 500 ∷ pos 500 ∷ pos 500 ∷ []
+
+abbrev pub rumbling : Bands
+rumbling = pos 680 ∷ pos 660 ∷ pos 660 ∷ pos 300 ∷ pos 300 ∷ pos 300 ∷ pos 300 ∷ pos 300 ∷ pos 300 ∷ pos 300 ∷ pos 300 ∷ pos 300 ∷ pos 300 ∷ pos 300 ∷ pos 300 ∷ pos 300 ∷ []
+
 -- one pencil check
 pub data Case : Type 0 where
   -- a set of a kind has this sheet: rating, first term, second term, count of shifts, no mark
@@ -80,6 +93,11 @@ pub data Case : Type 0 where
   lists : Kind → Bands → ℤ → List ℕ → Case
   -- a cover's improvement rating and term, of its improvements
   improves : Bands → ℤ → ℤ → Case
+  -- tenths in whole decibels
+  rounds : ℤ → ℤ → Case
+  -- a set's term by a spectrum, and its impact term, in tenths
+  weighs : Kind → Bands → (ℕ → ℤ) → ℤ → Case
+  sums : Kind → Bands → ℤ → Case
   -- c(d), and k(T)
   background : ℕ → ℕ → Case
   time : ℕ → ℤ → Case
@@ -92,6 +110,9 @@ Claim (rating k x r) = ratingOf k (at x) ≡ r
 Claim (totals k x p t) = total k (at x) p ≡ t
 Claim (lists k x t ms) = liftList k (at x) t ≡ ms
 Claim (improves x r t) = coverOf (setOf x) ≡ Improvement (decibels r) (decibels t) false
+Claim (rounds t r) = halfEven t ≡ r
+Claim (weighs k x L t) = airborneTerm k (at x) L ≡ t
+Claim (sums k x t) = impactTerm k (at x) ≡ t
 Claim (background d n) = c d ≡ n
 Claim (time t z) = k t ≡ z
 
@@ -119,6 +140,17 @@ table =
     -- the covered floor, and the cover
     rating I3 covered (pos 59) ∷
     improves improvements (pos 19) (negℤ (pos 10)) ∷
+    -- ties: 0.5 gives 0, -1.5 gives -2, 2.5 gives 2
+    rounds (pos 5) (pos 0) ∷
+    rounds (negℤ (pos 15)) (negℤ (pos 2)) ∷
+    rounds (pos 25) (pos 2) ∷
+    -- and where they stand: Ctr of 0.5, C of -1.5, an impact term of 2.5
+    weighs A3 last-weak (Ctr A3) (pos 5) ∷
+    rates A3 last-weak (pos 49) (negℤ (pos 1)) (Given (decibels (pos 0))) 6 ∷
+    weighs A1 lowest-weak (C A1) (negℤ (pos 15)) ∷
+    rates A1 lowest-weak (pos 51) (negℤ (pos 2)) (Given (decibels (negℤ (pos 4)))) 2 ∷
+    sums I3 rumbling (pos 25) ∷
+    rates I3 rumbling (pos 54) (pos 2) Absent 23 ∷
     -- corrections
     background 60 13 ∷
     background 61 12 ∷

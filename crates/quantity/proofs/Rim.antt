@@ -1,19 +1,18 @@
 -- Between signed numbers and naturals: what a sum or a difference that is not below 0 is as a natural. Assumes nothing.
 use mathlib.Core.Path.{_≡_, refl}
 use mathlib.Core.Bool.{Bool, true, false, _&&_}
-use Prim.Native.Nat.{ℕ, _+_, _*_, _/_, _≤_, _<_}
+use Prim.Native.Nat.{ℕ, _+_, _≤_, _<_}
 use native.Mathlib.Omega.{arith}
 use borrow.Author.Tests.{le-leb, lt-leb, leb-true}
 use lib.Dec.{T, leb}
 use lib.IntN.{ℤ, pos, negsuc, natAbs, _+ℤ_, _-ℤ_}
-use lib.Signed.{nonNeg, shrZ, mag}
+use lib.Signed.{nonNeg, mag}
 use mir.Syntax.{w32}
 use mir.Val.{Fits, SFits, toZ, ofZ}
 use mir.Facts.{toZ-ofZ, toZ-pos}
 use Rattle.laws.specs.Parts.{P, N}
 use Rattle.laws.proofs.Ints.{plus, minus, apart, fits-made}
-use Rattle.laws.proofs.Floor.{IsFloor, floor-is, floor-unique}
-use Rattle.quantity.specs.Quantities.{inRange, halfUp}
+use Rattle.quantity.specs.Quantities.{inRange}
 
 nonneg : (z : ℤ) → N z ≡ 0 → T (nonNeg z)
 nonneg (pos n) e = tt
@@ -89,23 +88,3 @@ range-read (negsuc n) e = omega (arith, leb-true n 199 (left (leb n 199) e))
     left : (b : Bool) → b && true ≡ true → b ≡ true
     left true e = refl
     left false e = e
-
--- "half going up": 10 r - 5 <= t < 10 r + 5
-pub half-up-is : (t : ℤ) → (10 * P (halfUp t) + N t ≤ P t + 10 * N (halfUp t) + 5) × (P t + 10 * N (halfUp t) < 10 * P (halfUp t) + N t + 5)
-unfolding halfUp
-half-up-is t =
-    let f : IsFloor 10 (t +ℤ pos 5) (shrZ (t +ℤ pos 5) 10) = floor-is 10 (omega arith) (t +ℤ pos 5) in
-    (omega (arith, plus t (pos 5)), omega (arith, plus t (pos 5)))
-
-pub half-up-unique : (t q : ℤ) → 10 * P q + N t ≤ P t + 10 * N q + 5 → P t + 10 * N q < 10 * P q + N t + 5 → q ≡ halfUp t
-unfolding halfUp
-half-up-unique t q a b =
-    floor-unique 10 (omega arith) (t +ℤ pos 5) q
-    (record { low = omega (arith, plus t (pos 5)); high = omega (arith, plus t (pos 5)) })
-
--- n counts tenths from -1000 dB and half a decibel: its tenth part counts the rounded decibels
-pub half-up-by : (t : ℤ) (n : ℕ) → n + N t ≡ 10005 + P t → pos (n / 10) -ℤ pos 1000 ≡ halfUp t
-half-up-by t n e =
-    half-up-unique t (pos (n / 10) -ℤ pos 1000)
-    (omega (arith, minus (pos (n / 10)) (pos 1000)))
-    (omega (arith, minus (pos (n / 10)) (pos 1000)))

@@ -2,7 +2,7 @@
 use crate::signed::above;
 use crate::signed::less;
 ghost use mathlib.Core.Path.{_≡_};
-ghost use Rattle.quantity.specs.Quantities.{inRange, halfUp, priced};
+ghost use Rattle.quantity.specs.Quantities.{inRange, halfEven, priced};
 ghost use Rattle.quantity.specs.Quantities.{InRange};
 ghost use lib.IntN.{pos, negsuc};
 
@@ -50,15 +50,17 @@ impl Tenths {
         true
     }
 
-    // The nearest whole decibel, a half going up.
+    // The nearest whole decibel, a half going to the even one.
     pub fn rounded(self) -> Decibels
         requires { ⌜ InRange (negsuc 9999) (pos 10000) (self .0) ⌝ }
-        ensures { λ r. ⌜ r .0 ≡ halfUp (self .0) ⌝ }
+        ensures { λ r. ⌜ r .0 ≡ halfEven (self .0) ⌝ }
     {
         let t = self.0;
-        // counted from -1000 dB, so that the quotient is one of naturals
-        let up = above(t, 10005) / 10;
-        Decibels(less(up, 1000))
+        // counted from -1000 dB, so that the quotients are those of naturals; 1000 is even, so that even stays even
+        let tenths = above(t, 10000);
+        // 5 carries a half up, 4 leaves it: up from an odd decibel, down from an even one
+        let carry = 4 + tenths / 10 % 2;
+        Decibels(less((tenths + carry) / 10, 1000))
     }
 }
 

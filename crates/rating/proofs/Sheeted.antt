@@ -10,7 +10,7 @@ use Rattle.laws.specs.Parts.{P, N}
 use Rattle.laws.proofs.Ints.{minus, apart, times-P, times-N}
 use Rattle.laws.proofs.Lists.{listed-at}
 use Rattle.laws.proofs.Sums.{sum-same}
-use Rattle.quantity.specs.Quantities.{halfUp, bandOf}
+use Rattle.quantity.specs.Quantities.{halfEven, bandOf}
 use Rattle.quantity.specs.declared.quantities.BandSet.{BandSet}
 use Rattle.quantity.specs.declared.quantities.Decibels.{Decibels}
 use Rattle.curve.specs.Bands.{accepted, limited}
@@ -80,23 +80,23 @@ module _ (k : Kind) (s : BandSet) (acc : accepted s (bandsOf k) ≡ true) where
     unfolding secondOf
     second-at i h = listed-at 0 (λ j. weightBy (airborne k) (Ctr k j)) 16 i h
 
-    first-by : (sign : Bool) → airborne k ≡ sign → halfUp (termOf sign (ratingAt k) (levelAt sign s (firstOf k)) n p) ≡ firstBy sign k (bandOf s)
-    first-by true e = ap halfUp (airborne-by (C k) (firstOf k) e first-at (first-fit k))
+    first-by : (sign : Bool) → airborne k ≡ sign → halfEven (termOf sign (ratingAt k) (levelAt sign s (firstOf k)) n p) ≡ firstBy sign k (bandOf s)
+    first-by true e = ap halfEven (airborne-by (C k) (firstOf k) e first-at (first-fit k))
     first-by false e =
         let fits′ = subst (λ (t : Bool). (i : ℕ) → i < 16 → Entries t (at (firstOf k) i)) e (first-fit k) in
         let is′ = subst (λ (t : Bool). (i : ℕ) → i < 16 → at (firstOf k) i ≡ weightBy t (C k i)) e first-at in
-        ap halfUp (sym (impact-term k (bandOf s) (ratingAt k) p some (levelAt false s (firstOf k))
+        ap halfEven (sym (impact-term k (bandOf s) (ratingAt k) p some (levelAt false s (firstOf k))
         (λ i h. omega (arith, parts-by false (firstOf k) fits′ i h, is′ i (omega (arith, most))))
         (subst (λ (t : Bool). ratingOf k (bandOf s) ≡ ratingBy t (ratingAt k) p) e r)))
 
-    pub first-is : halfUp (termOf (airborne k) (ratingAt k) (levelAt (airborne k) s (firstOf k)) n p) ≡ firstBy (airborne k) k (bandOf s)
+    pub first-is : halfEven (termOf (airborne k) (ratingAt k) (levelAt (airborne k) s (firstOf k)) n p) ≡ firstBy (airborne k) k (bandOf s)
     first-is = first-by (airborne k) refl
 
     pub second-given : airborne k ≡ true
-        → Given (decibels (halfUp (termOf (airborne k) (ratingAt k) (levelAt (airborne k) s (secondOf k)) n p))) ≡ secondBy (airborne k) k (bandOf s)
+        → Given (decibels (halfEven (termOf (airborne k) (ratingAt k) (levelAt (airborne k) s (secondOf k)) n p))) ≡ secondBy (airborne k) k (bandOf s)
     second-given e =
-        ap (λ (t : Bool). Given (decibels (halfUp (termOf t (ratingAt k) (levelAt t s (secondOf k)) n p)))) e
-        ∙ ap (λ (z : ℤ). Given (decibels (halfUp z))) (airborne-by (Ctr k) (secondOf k) e second-at (second-fit k))
+        ap (λ (t : Bool). Given (decibels (halfEven (termOf t (ratingAt k) (levelAt t s (secondOf k)) n p)))) e
+        ∙ ap (λ (z : ℤ). Given (decibels (halfEven z))) (airborne-by (Ctr k) (secondOf k) e second-at (second-fit k))
         ∙ ap (λ (t : Bool). secondBy t k (bandOf s)) (sym e)
 
     pub second-absent : airborne k ≡ false → Absent ≡ secondBy (airborne k) k (bandOf s)
@@ -142,10 +142,10 @@ sought-by k s m levels p shifts e l w =
     (ap (λ (t : ℕ). (t + startAdd k) / (10 * m .bands)) (sum-same (at levels) g (m .bands) (l .each))) w)
 
 pub term-by : (s : BandSet) (m : Numbers) (entries levels : List ℕ) (p : ℕ) (d : ℤ) → Sound m → Levels (m .airborne) s entries (m .bands) levels
-    → d ≡ halfUp (termOf (m .airborne) (m .origin .0) (at levels) (m .bands) p)
-    → d ≡ halfUp (termOf (m .airborne) (m .origin .0) (levelAt (m .airborne) s entries) (m .bands) p)
+    → d ≡ halfEven (termOf (m .airborne) (m .origin .0) (at levels) (m .bands) p)
+    → d ≡ halfEven (termOf (m .airborne) (m .origin .0) (levelAt (m .airborne) s entries) (m .bands) p)
 term-by s m entries levels p d sound l e =
-    e ∙ ap halfUp (term-alike (m .airborne) (m .origin .0) (at levels) (levelAt (m .airborne) s entries) (m .bands) p (count-some (sound .count)) (l .each))
+    e ∙ ap halfEven (term-alike (m .airborne) (m .origin .0) (at levels) (levelAt (m .airborne) s entries) (m .bands) p (count-some (sound .count)) (l .each))
 
 pub position-small : (k : Kind) (s : BandSet) (p shifts : ℕ) → accepted s (bandsOf k) ≡ true → Sought k s p shifts → p < 500
 position-small k s p shifts acc w = omega (arith, start-below k s acc, w .distance)
@@ -159,13 +159,13 @@ rating-made k s acc m e p shifts r found w =
 
 -- the second term: given for airborne, absent for impact
 pub data SecondAt (m : Numbers) (s : BandSet) (p : ℕ) : Term → Type 0 where
-  given : (d : Decibels) → m .airborne ≡ true → d .0 ≡ halfUp (termOf (m .airborne) (m .origin .0) (levelAt (m .airborne) s (m .second)) (m .bands) p)
+  given : (d : Decibels) → m .airborne ≡ true → d .0 ≡ halfEven (termOf (m .airborne) (m .origin .0) (levelAt (m .airborne) s (m .second)) (m .bands) p)
       → SecondAt m s p (Given d)
   absent : m .airborne ≡ false → SecondAt m s p Absent
 
 pub record MadeAt (s : BandSet) (p : ℕ) (r : Sheet) (m : Numbers) : Type 0 where
   pub rating : r .rating .0 ≡ ratingBy (m .airborne) (m .origin .0) p
-  pub first : r .first .0 ≡ halfUp (termOf (m .airborne) (m .origin .0) (levelAt (m .airborne) s (m .first)) (m .bands) p)
+  pub first : r .first .0 ≡ halfEven (termOf (m .airborne) (m .origin .0) (levelAt (m .airborne) s (m .first)) (m .bands) p)
   pub second : SecondAt m s p (r .second)
 
 second-is : (k : Kind) (s : BandSet) → accepted s (bandsOf k) ≡ true → (p : ℕ) → ratingOf k (bandOf s) ≡ ratingBy (airborne k) (ratingAt k) p

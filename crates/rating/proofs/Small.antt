@@ -9,10 +9,10 @@ use lib.Dec.{eqb}
 use lib.IntN.{ℤ, pos, _-ℤ_}
 use Rattle.laws.specs.Parts.{P, N}
 use Rattle.laws.proofs.Ints.{minus, apart}
-use Rattle.quantity.specs.Quantities.{halfUp, bandOf}
+use Rattle.quantity.specs.Quantities.{halfEven, bandOf}
 use Rattle.quantity.specs.declared.quantities.BandSet.{BandSet}
 use Rattle.quantity.specs.declared.refusals.Refusal.the-variants.{BandCount, BandRange}
-use Rattle.quantity.proofs.Rim.{half-up-is}
+use Rattle.quantity.proofs.Halves.{half-even-near}
 use Rattle.energy.specs.Energies.{u}
 use Rattle.curve.specs.Bands.{accepted}
 use Rattle.curve.specs.Levels.{at, Entries, levelAt, leastOf, energiesOf, startAt}
@@ -61,8 +61,8 @@ origin-small A1 = omega arith
 origin-small I3 = omega arith
 origin-small I1 = omega arith
 
-half-small : (t : ℤ) → Small t → Small (halfUp t)
-half-small t h = (omega (arith, half-up-is t, apart (halfUp t)), omega (arith, half-up-is t, apart (halfUp t)))
+half-small : (t : ℤ) → Small t → Small (halfEven t)
+half-small t h = (omega (arith, half-even-near t, apart (halfEven t)), omega (arith, half-even-near t, apart (halfEven t)))
 
 module _ (k : Kind) (s : BandSet) (acc : accepted s (bandsOf k) ≡ true) where
   abbrev n : ℕ
@@ -82,7 +82,7 @@ module _ (k : Kind) (s : BandSet) (acc : accepted s (bandsOf k) ≡ true) where
 
   -- a term by any fitting entries
   term-by : (ws : List ℕ) → ((i : ℕ) → i < 16 → Entries (airborne k) (at ws i))
-      → Small (halfUp (termAt (airborne k) (ratingAt k) (levelAt (airborne k) s ws) n p))
+      → Small (halfEven (termAt (airborne k) (ratingAt k) (levelAt (airborne k) s ws) n p))
   term-by ws fits =
       let g : ℕ → ℕ = levelAt (airborne k) s ws in
       let one : 1 ≤ n = count-some (count-of k) in

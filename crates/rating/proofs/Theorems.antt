@@ -15,7 +15,7 @@ use Rattle.laws.specs.Sums.{sumTo}
 use Rattle.laws.proofs.Ints.{plus, minus, eq-made, le-read}
 use Rattle.laws.proofs.Lists.{listed-at}
 use Rattle.laws.proofs.Sums.{sum-same, sumℤ-same}
-use Rattle.quantity.specs.Quantities.{tenths, inRange, halfUp, bandOf}
+use Rattle.quantity.specs.Quantities.{tenths, inRange, halfEven, bandOf}
 use Rattle.quantity.specs.declared.quantities.BandSet.{BandSet}
 use Rattle.quantity.specs.declared.quantities.Tenths.{Tenths}
 use Rattle.quantity.specs.declared.refusals.Refusal.the-variants.{BandCount, BandRange}
@@ -146,11 +146,11 @@ module _ (k : Kind) (x y : ℕ → ℤ) (same : (i : ℕ) → i < bandsOf k → 
       ap₂ (λ (z : ℤ) (r : ℤ). z -ℤ pos 150 -ℤ pos 10 *ℤ r) (ap₂ (λ (z : ℤ) (t : ℕ). z +ℤ pos (u t)) m S) rating-same
 
   first-same-by : (sign : Bool) → firstBy sign k x ≡ firstBy sign k y
-  first-same-by true = ap halfUp (airborne-same (C k))
-  first-same-by false = ap halfUp impact-same
+  first-same-by true = ap halfEven (airborne-same (C k))
+  first-same-by false = ap halfEven impact-same
 
   second-same-by : (sign : Bool) → secondBy sign k x ≡ secondBy sign k y
-  second-same-by true = ap (λ (z : ℤ). Given (record { 0 = halfUp z })) (airborne-same (Ctr k))
+  second-same-by true = ap (λ (z : ℤ). Given (record { 0 = halfEven z })) (airborne-same (Ctr k))
   second-same-by false = refl
 
 sheet-same : (k : Kind) (s t : BandSet) → ((i : ℕ) → i < bandsOf k → bandOf s i ≡ bandOf t i)

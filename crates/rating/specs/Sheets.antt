@@ -5,7 +5,7 @@ use mathlib.Core.List.{List, [], _∷_}
 use Prim.Native.Nat.{ℕ}
 use lib.Dec.{eqb}
 use lib.IntN.{ℤ, pos}
-use Rattle.quantity.specs.Quantities.{halfUp, bandOf}
+use Rattle.quantity.specs.Quantities.{halfEven, bandOf}
 use Rattle.quantity.specs.Refusals.{numberOf}
 use Rattle.quantity.specs.Answers.{Answer, flag}
 use Rattle.quantity.specs.Answers.Answer.{refused, numbers}
@@ -31,13 +31,14 @@ use Rattle.rating.specs.Terms.{airborneTerm, impactTerm}
 abbrev pub decibels : ℤ → Decibels
 decibels z = record { 0 = z }
 
--- the first term: C, or the impact term; and the second: Ctr, or none. "Each term is then rounded to a whole dB"
+-- the first term: C, or the impact term; and the second: Ctr, or none. "Each term is then rounded to a whole dB", by document
+-- 02, request (ii)
 abbrev pub firstBy : Bool → Kind → (ℕ → ℤ) → ℤ
-firstBy true k x = halfUp (airborneTerm k x (C k))
-firstBy false k x = halfUp (impactTerm k x)
+firstBy true k x = halfEven (airborneTerm k x (C k))
+firstBy false k x = halfEven (impactTerm k x)
 
 abbrev pub secondBy : Bool → Kind → (ℕ → ℤ) → Term
-secondBy true k x = Given (decibels (halfUp (airborneTerm k x (Ctr k))))
+secondBy true k x = Given (decibels (halfEven (airborneTerm k x (Ctr k))))
 secondBy false k x = Absent
 
 -- the mark: "at least for airborne, at most for impact"

@@ -26,7 +26,7 @@ ghost use mathlib.Core.Path.{_≡_};
 ghost use mathlib.Core.Bool.{true};
 ghost use Prim.Native.Nat.{ℕ, _≤_, _<_};
 ghost use Rattle.energy.specs.Energies.{Tables};
-ghost use Rattle.quantity.specs.Quantities.{halfUp, bandOf};
+ghost use Rattle.quantity.specs.Quantities.{halfEven, bandOf};
 ghost use Rattle.curve.specs.Bands.{accepted};
 ghost use Rattle.curve.specs.Levels.{Count, at};
 ghost use Rattle.kinds.specs.Kinds.{bandsOf};
@@ -137,7 +137,7 @@ fn term_of(
     requires { ⌜ Count bands ⌝ }
     requires { ⌜ ((i : ℕ) → i < bands → at (now levels) i ≤ 4500) ⌝ }
     requires { ⌜ (origin .0 < 200) × (p .0 < 500) ⌝ }
-    ensures { λ r. ⌜ r .0 ≡ halfUp (termOf airborne (origin .0) (at (now (levels .entry))) bands (p .0)) ⌝ }
+    ensures { λ r. ⌜ r .0 ≡ halfEven (termOf airborne (origin .0) (at (now (levels .entry))) bands (p .0)) ⌝ }
 {
     let w = weigh(levels, bands, powers, thresholds, starts);
     let tenths = term_at(w, p, airborne, origin);

@@ -126,13 +126,13 @@ impl<const N: usize> Kind<N> {
         (sum + tenths_of_a_decibel - 1).div_euclid(tenths_of_a_decibel) + 5
     }
 
-    /// A term in whole dB, half going up.
+    /// A term in whole dB.
     #[inline(always)]
     fn term(&self, values: &[i32; N], spectrum: &[i32; N], rating: i32) -> i32 {
         let weighted = core::array::from_fn(|band| self.turned(values[band]) - spectrum[band]);
         let level = self.turned(energy::together::<N>(&weighted));
         let tenths = level - 10 * rating - if self.sign < 0 { 150 } else { 0 };
-        (tenths + 5).div_euclid(10)
+        whole_decibels(tenths)
     }
 
     /// The rating of accepted values.
@@ -153,6 +153,14 @@ impl<const N: usize> Kind<N> {
             shifts: self.start(values) - position,
         }
     }
+}
+
+/// Tenths in whole dB by GB 8170: the nearest, and of two that are as near the even one.
+#[inline(always)]
+fn whole_decibels(tenths: i32) -> i32 {
+    let up = (tenths + 5).div_euclid(10);
+    let tie = tenths == 10 * up - 5;
+    if tie { up & !1 } else { up }
 }
 
 /// What a band lacks below a curve.

@@ -1,6 +1,6 @@
 """Band sets in tenths, operation 1, and the odd values that others use too."""
 
-from paper.quantities import A3, GREATEST_VALUE, KINDS, LEAST_VALUE
+from paper.quantities import A1, A3, GREATEST_VALUE, I3, KINDS, LEAST_VALUE
 from paper.rooms import REFERENCE_FLOOR
 
 from .curves import COVER_SHAPES, limit_marks, measured
@@ -10,6 +10,10 @@ GREATEST_WORD = 2 ** 31 - 1
 OUT_OF_RANGE = (LEAST_VALUE - 1, GREATEST_VALUE + 1, LEAST_WORD, GREATEST_WORD)
 
 ISO_EXAMPLE = (204, 163, 177, 226, 224, 227, 248, 266, 280, 305, 318, 325, 334, 330, 310, 255)
+
+# Sheets whose Ctr, C and impact term are ties: 0.5, -1.5 and 2.5 dB.
+TIED_SHEETS = ((A3, (*(15 * [500]), 430)), (A1, (360, *(4 * [500]))),
+               (I3, (680, 660, 660, *(13 * [300]))))
 
 
 def word(seeded):
@@ -66,6 +70,8 @@ def pencil_cases():
     cover = [10 * level for level in COVER_SHAPES[0]]
     cases.append([2, 16, 0, *(floor - less for floor, less in zip(REFERENCE_FLOOR, cover))])
     cases.append([1, 4, 0, 240, 330, 400, 430, *(12 * [0])])
+    cases += [[KINDS.index(kind), kind.bands, 0, *values, *((16 - kind.bands) * [0])]
+              for kind, values in TIED_SHEETS]
     return cases
 
 

@@ -1,9 +1,9 @@
-"""Document 01, and request (x) of document 02, read in whole numbers of any size.
+"""Document 01 and requests (ii), (x) and (xi) of document 02, in whole numbers of any size.
 
 One module for each subject of the documents, in their order:
 
   quantities  ranges, kinds, refusals, readings            "Quantities and ranges"
-  energies    F, H, G, B, u, v, terms, means, c, k         "Sums of energies"
+  energies    F, H, G, B, u, v, terms, means, c, k         "Sums of energies"; 02, "Halves .."
   rating      deficits, positions, shifts, the sheet       "Rating"
   rooms       background, raw bands, octaves, specimens,
               covers, grades                               "Background ..", "Covers and grades"

@@ -71,8 +71,15 @@ def impact_term_tenths(values, rating):
 
 
 def whole_decibels(tenths):
-    """A term rounded to a whole dB, half going up: -1.5 gives -1, 0.5 gives 1."""
-    return (tenths + 5) // 10
+    """A term rounded to a whole dB (02, "Halves by GB 8170").
+
+    A half goes to the even whole number, by size and with the sign put back:
+    0.5 gives 0, -1.5 gives -2, 2.5 gives 2.
+    """
+    whole, rest = divmod(abs(tenths), 10)
+    if rest > 5 or rest == 5 and whole % 2 == 1:
+        whole += 1
+    return -whole if tenths < 0 else whole
 
 
 def mean_of_three(first, second, third):

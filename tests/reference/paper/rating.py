@@ -86,14 +86,18 @@ def shifts_of(kind, values):
     return start - accepted if kind.airborne else accepted - start
 
 
-def terms_of(kind, values, rating):
-    """The first and the second term in whole dB; impact has no second."""
+def terms_in_tenths(kind, values, rating):
+    """C and Ctr, or the impact term alone, before they are rounded."""
     if kind.airborne:
         spectra = (energies.SPECTRUM_C[kind.bands], energies.SPECTRUM_CTR[kind.bands])
-        return tuple(
-            energies.whole_decibels(energies.airborne_term_tenths(values, spectrum, rating))
-            for spectrum in spectra)
-    return energies.whole_decibels(energies.impact_term_tenths(values, rating)), None
+        return [energies.airborne_term_tenths(values, spectrum, rating) for spectrum in spectra]
+    return [energies.impact_term_tenths(values, rating)]
+
+
+def terms_of(kind, values, rating):
+    """The first and the second term in whole dB; impact has no second."""
+    terms = [energies.whole_decibels(term) for term in terms_in_tenths(kind, values, rating)]
+    return terms if kind.airborne else (*terms, None)
 
 
 class Sheet(NamedTuple):

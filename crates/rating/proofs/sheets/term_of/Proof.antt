@@ -7,7 +7,7 @@ use native.Mathlib.Omega.{arith}
 use lib.IntN.{ℤ}
 use Rattle.laws.specs.Parts.{P, N}
 use Rattle.laws.proofs.Ints.{ints}
-use Rattle.quantity.specs.Quantities.{halfUp}
+use Rattle.quantity.specs.Quantities.{halfEven}
 use Rattle.curve.specs.Levels.{at, leastOf, energiesOf}
 use Rattle.curve.proofs.Searched.{count-some, least-below}
 use Rattle.rating.specs.Found.{termBy}
@@ -58,7 +58,7 @@ returns : tie.Need-returns
 returns c =
     let w = c .before .before in
     c .rounded .ensures
-    ∙ ap halfUp (c .before .term-at .ensures ∙ ap₂ (term (w .before)) (w .weigh .ensures .least-is) (w .weigh .ensures .step-is))
+    ∙ ap halfEven (c .before .term-at .ensures ∙ ap₂ (term (w .before)) (w .weigh .ensures .least-is) (w .weigh .ensures .step-is))
 
 pub term-of-spec : {M : Type 1} → statement M
 term-of-spec = tie.close (tie.spec weigh-requires term-at-requires rounded-requires returns)
