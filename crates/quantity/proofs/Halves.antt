@@ -1,7 +1,7 @@
 -- What the rounding of a term means: the nearest whole decibel and, of two that are as near, the even one. There is only one
 -- such number; its size does not depend on the sign; and it is what document 01's rule gave, "half going up", but at the ties
 -- where that gave an odd number. Assumes nothing.
-use mathlib.Core.Path.{_≡_, refl, sym}
+use mathlib.Core.Path.{_≡_, refl, sym, _∙_}
 use mathlib.Core.Bool.{Bool, true, false, _&&_, cond}
 use Prim.Native.Nat.{ℕ, suc, _+_, _*_, _/_, _%_, _≤_, _<_}
 use native.Mathlib.Nat.{le-antisymm}
@@ -44,10 +44,11 @@ module _ (t r : ℤ) where
 
 -- ---- the definition has it
 
-record IsEvenHalf (n m : ℕ) : Type 0 where
-  low : 10 * m ≤ n + 5
-  high : n ≤ 10 * m + 5
-  even : n % 10 ≡ 5 → m % 2 ≡ 0
+-- the same of a size of n tenths, m its whole decibels; at a tie m is the even one of the whole part and the next
+pub record IsEvenHalf (n m : ℕ) : Type 0 where
+  pub low : 10 * m ≤ n + 5
+  pub high : n ≤ 10 * m + 5
+  pub tie : n % 10 ≡ 5 → m ≡ n / 10 + n / 10 % 2
 
 even-half-is : (n : ℕ) → IsEvenHalf n (evenHalf n)
 unfolding evenHalf
@@ -55,20 +56,40 @@ even-half-is n = go (leb (n % 10) 4) (leb 6 (n % 10)) refl refl
   where
     go : (down up : Bool) → leb (n % 10) 4 ≡ down → leb 6 (n % 10) ≡ up
         → IsEvenHalf n (cond down (n / 10) (cond up (suc (n / 10)) (n / 10 + n / 10 % 2)))
-    go true up d u = record { low = omega arith; high = omega (arith, leb-true (n % 10) 4 d); even = λ t. absurd (omega (arith, leb-true (n % 10) 4 d)) }
-    go false true d u = record { low = omega (arith, leb-true 6 (n % 10) u); high = omega arith; even = λ t. absurd (omega (arith, leb-true 6 (n % 10) u)) }
-    go false false d u = record { low = omega (arith, leb-false (n % 10) 4 d, leb-false 6 (n % 10) u); high = omega (arith, leb-false (n % 10) 4 d, leb-false 6 (n % 10) u); even = λ t. omega arith }
+    go true up d u =
+        let h : n % 10 ≤ 4 = leb-true (n % 10) 4 d in
+        record { low = omega arith; high = omega arith; tie = λ e. absurd (omega arith) }
+    go false true d u =
+        let h : 6 ≤ n % 10 = leb-true 6 (n % 10) u in
+        record { low = omega arith; high = omega arith; tie = λ e. absurd (omega arith) }
+    go false false d u =
+        let h : 4 < n % 10 = leb-false (n % 10) 4 d in
+        let k : n % 10 < 6 = leb-false 6 (n % 10) u in
+        record { low = omega arith; high = omega arith; tie = λ e. refl }
+
+pub even-half-most : (n : ℕ) → 10 * evenHalf n ≤ n + 5
+even-half-most n = even-half-is n .low
+
+pub even-half-unique : (n m : ℕ) → IsEvenHalf n m → m ≡ evenHalf n
+even-half-unique n m h = go (eqb (n % 10) 5) refl
+  where
+    d : IsEvenHalf n (evenHalf n)
+    d = even-half-is n
+
+    go : (tied : Bool) → eqb (n % 10) 5 ≡ tied → m ≡ evenHalf n
+    go true e = h .tie (eqb-true (n % 10) 5 e) ∙ sym (d .tie (eqb-true (n % 10) 5 e))
+    go false e = omega (arith, h .low, h .high, d .low, d .high, eqb-false (n % 10) 5 e)
 
 pub half-even-is : (t : ℤ) → IsHalfEven t (halfEven t)
 unfolding halfEven
 half-even-is (pos n) =
     let h : IsEvenHalf n (evenHalf n) = even-half-is n in
-    half-even-made (pos n) (pos (evenHalf n)) (omega (arith, h .low)) (omega (arith, h .high)) (λ e. omega (arith, h .even (omega arith)))
+    half-even-made (pos n) (pos (evenHalf n)) (omega (arith, h .low)) (omega (arith, h .high)) (λ e. omega (arith, h .tie (omega arith)))
 half-even-is (negsuc n) =
     let h : IsEvenHalf (suc n) (evenHalf (suc n)) = even-half-is (suc n) in
     let r : ℤ = negℤ (pos (evenHalf (suc n))) in
     half-even-made (negsuc n) r (omega (arith, h .low, opposite (pos (evenHalf (suc n))))) (omega (arith, h .high, opposite (pos (evenHalf (suc n)))))
-    (λ e. omega (arith, h .even (omega arith), opposite (pos (evenHalf (suc n)))))
+    (λ e. omega (arith, h .tie (omega arith), opposite (pos (evenHalf (suc n)))))
 
 pub half-even-near : (t : ℤ) → (10 * P (halfEven t) + N t ≤ P t + 10 * N (halfEven t) + 5) × (P t + 10 * N (halfEven t) ≤ 10 * P (halfEven t) + N t + 5)
 half-even-near t = half-even-read t (halfEven t) (half-even-is t)
@@ -144,15 +165,9 @@ half-even-or-up t = sym (half-even-unique t _ (go (eqb (size t % 10) 5) (eqb (si
         even m q = omega (arith, eqb-false (m % 2) 1 q)
     go false odd e o = half-even-made t up (omega (arith, is-up)) (omega (arith, is-up)) (λ s. absurd (eqb-false (size t % 10) 5 e s))
 
--- ---- the code's way
+-- ---- counted from -1000 dB
 
--- at a tie what carries leads to an even number
-carried : (n : ℕ) → n % 10 ≡ 5 → (n + (4 + n / 10 % 2)) / 10 % 2 ≡ 0
-carried n h =
-    let up : (n + (4 + n / 10 % 2)) / 10 ≡ n / 10 + n / 10 % 2 = omega arith in
-    rw up (omega arith)
-
--- and 1000 less is as even
+-- 1000 less is as even
 lowered : (n : ℕ) → n % 2 ≡ 0 → size (pos n -ℤ pos 1000) % 2 ≡ 0
 lowered n h = go (leb (size r % 2) 0) refl
   where
@@ -163,13 +178,13 @@ lowered n h = go (leb (size r % 2) 0) refl
     go true l = omega (arith, leb-true (size r % 2) 0 l)
     go false l = even-odd (N r + n / 2) (size r / 2 + 500) _ (omega (arith, leb-false (size r % 2) 0 l, minus (pos n) (pos 1000)))
 
--- n counts tenths from -1000 dB; what carries a half is 5 from an odd decibel and 4 from an even one
-pub half-even-by : (t : ℤ) (n : ℕ) → n + N t ≡ 10000 + P t → pos ((n + (4 + n / 10 % 2)) / 10) -ℤ pos 1000 ≡ halfEven t
-half-even-by t n e =
-    let up : ℕ = (n + (4 + n / 10 % 2)) / 10 in
-    let r : ℤ = pos up -ℤ pos 1000 in
+-- so that what rounds the count rounds the term
+pub half-even-counted : (t : ℤ) (n : ℕ) → n + N t ≡ 10000 + P t → pos (evenHalf n) -ℤ pos 1000 ≡ halfEven t
+half-even-counted t n e =
+    let h : IsEvenHalf n (evenHalf n) = even-half-is n in
+    let r : ℤ = pos (evenHalf n) -ℤ pos 1000 in
     half-even-unique t r
     (half-even-made t r
-    (omega (arith, minus (pos up) (pos 1000)))
-    (omega (arith, minus (pos up) (pos 1000)))
-    (λ s. lowered up (carried n (omega (arith, apart t)))))
+    (omega (arith, h .low, minus (pos (evenHalf n)) (pos 1000)))
+    (omega (arith, h .high, minus (pos (evenHalf n)) (pos 1000)))
+    (λ s. lowered (evenHalf n) (omega (arith, h .tie (omega (arith, apart t))))))

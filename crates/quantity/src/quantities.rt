@@ -2,7 +2,8 @@
 use crate::signed::above;
 use crate::signed::less;
 ghost use mathlib.Core.Path.{_≡_};
-ghost use Rattle.quantity.specs.Quantities.{inRange, halfEven, priced};
+ghost use Prim.Native.Nat.{_≤_};
+ghost use Rattle.quantity.specs.Quantities.{inRange, evenHalf, halfEven, priced};
 ghost use Rattle.quantity.specs.Quantities.{InRange};
 ghost use lib.IntN.{pos, negsuc};
 
@@ -35,6 +36,16 @@ pub struct BandSet {
     pub len: usize,
 }
 
+// So many tenths in whole decibels, a half going to the even one.
+fn even_half(tenths: u32) -> u32
+    requires { ⌜ tenths ≤ 20000 ⌝ }
+    ensures { λ r. ⌜ r ≡ evenHalf tenths ⌝ }
+{
+    // 5 carries a half up, 4 leaves it: up from an odd decibel, down from an even one
+    let carry = 4 + tenths / 10 % 2;
+    (tenths + carry) / 10
+}
+
 impl Tenths {
     // Whether this is a band value: -20.0 to 150.0 dB.
     pub fn in_range(self) -> bool
@@ -56,11 +67,9 @@ impl Tenths {
         ensures { λ r. ⌜ r .0 ≡ halfEven (self .0) ⌝ }
     {
         let t = self.0;
-        // counted from -1000 dB, so that the quotients are those of naturals; 1000 is even, so that even stays even
+        // counted from -1000 dB: that is even, so that what is even from there is even
         let tenths = above(t, 10000);
-        // 5 carries a half up, 4 leaves it: up from an odd decibel, down from an even one
-        let carry = 4 + tenths / 10 % 2;
-        Decibels(less((tenths + carry) / 10, 1000))
+        Decibels(less(even_half(tenths), 1000))
     }
 }
 
