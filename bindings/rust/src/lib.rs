@@ -93,6 +93,8 @@ pub fn take_reading(reading: Reading) -> Result<Value, Refusal> {
 /// assert_eq!(rate(Kind::A1, &octaves, 0)?.rating, Decibels(42));
 /// assert!(rate(Kind::A1, &octaves, 0b10000)?.limit);
 /// assert_eq!(rate(Kind::A3, &octaves, 0), Err(Refusal::BandCount));
+/// let weak = [360, 500, 500, 500, 500].map(Tenths);
+/// assert_eq!(rate(Kind::A1, &weak, 0)?.first, Decibels(-2)); // of -1.5 dB
 /// # Ok::<(), Refusal>(())
 /// ```
 pub fn rate(kind: Kind, values: &[Tenths], marks: u16) -> Result<Sheet, Refusal> {
