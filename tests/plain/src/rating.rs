@@ -159,8 +159,8 @@ impl<const N: usize> Kind<N> {
 #[inline(always)]
 fn whole_decibels(tenths: i32) -> i32 {
     let up = (tenths + 5).div_euclid(10);
-    let tie = tenths == 10 * up - 5;
-    if tie { up & !1 } else { up }
+    let odd_tie = tenths == 10 * up - 5 && up % 2 != 0;
+    up - i32::from(odd_tie)
 }
 
 /// What a band lacks below a curve.
