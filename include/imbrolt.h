@@ -12,9 +12,9 @@
  *   Units          Measured values and levels are whole tenths of a decibel, in -200..1500. Ratings,
  *                  targets and terms are whole decibels, prices whole fen. Nothing converts between
  *                  them unasked.
- *   Terms          Each term comes in tenths and is rounded to a whole decibel by GB 8170: a half goes
- *                  to the even whole number, by size and with the sign put back (0.5 gives 0, 1.5 gives
- *                  2, -1.5 gives -2). What is made of a rounded term is not rounded again.
+ *   Terms          Each term is worked out in tenths and rounded to a whole decibel by GB 8170: a half
+ *                  goes to the even whole number, by size and with the sign put back (0.5 gives 0, 1.5
+ *                  gives 2, -1.5 gives -2). What is made of a rounded term is not rounded again.
  *   Arrays         An array is a pointer and, right after it, the number of its elements (not of
  *                  bytes). No element is touched past that number; where it is 0 the pointer is not
  *                  followed and may be NULL. Arrays lent to one call must not overlap each other
@@ -418,7 +418,8 @@ uint32_t imbrolt_open_register(imbrolt_register *reg);
 
 /*
  * Rates a set, given as for imbrolt_rate, on a customer's bill: a new key is entered and charged; the
- * same customer, key, kind and bands again get the same sheet and no charge. A key is 1 to 32 ASCII
+ * same customer, key, kind and bands again get the same sheet and no charge. A register holds no
+ * sheets: in one that another version left, a key's sheet is this version's. A key is 1 to 32 ASCII
  * letters, digits or hyphens. The price, in fen, is fixed when the key is entered; that of a later
  * call is tested for its range and is otherwise without effect.
  *

@@ -282,6 +282,15 @@ def half_up(tenths):
     return (tenths + 5) // 10
 
 
+def half_down(tenths):
+    return -half_up(-tenths)
+
+
+def half_away(tenths):
+    """A half goes away from zero."""
+    return half_up(tenths) if tenths >= 0 else half_down(tenths)
+
+
 def test_terms_are_rounded_to_the_even():
     for tenths, decibels in ((5, 0), (-15, -2), (25, 2), (15, 2), (-5, 0), (-25, -2), (0, 0),
                              (4, 0), (6, 1), (-4, 0), (-6, -1), (14, 1), (16, 2), (-14, -1),
@@ -403,9 +412,9 @@ def test_pencil_ratings():
 
 
 def test_pencil_sheets_with_a_tie():
-    """0.5, -1.5 and 2.5 dB, where they stand; half up they would give 1, -1 and 3."""
-    terms = ([-8, 5], [-15, -39], [25])
-    sheets = ((49, -1, 0, 6), (51, -2, -4, 2), (54, 2, None, 23))
+    """Half up would give 1 for 0.5, -1 for -1.5, 3 for 2.5 dB; half down -1 for -0.5 dB."""
+    terms = ([-8, 5], [-15, -39], [25], [-5, -30])
+    sheets = ((49, -1, 0, 6), (51, -2, -4, 2), (54, 2, None, 23), (50, 0, -3, 4))
     for (kind, values), tenths, numbers in zip(TIED_SHEETS, terms, sheets, strict=True):
         same(terms_in_tenths(kind, values, rating_of(kind, values)), tenths, kind.name)
         same(sheet_numbers(kind, values), numbers, kind.name)
@@ -602,7 +611,7 @@ def test_cover_pencil():
     same(rooms.cover(whole_set(less, 0x8000)), (19, -10, True))
 
 
-def test_cover_rounds_the_impact_term_first():
+def test_cover_term_is_the_same_rounded_first_or_last():
     """By GB 8170 rounding last gives the same term; half up it would not, at a tie."""
     seeded = Seeded(9)
     others = 0
@@ -1323,28 +1332,40 @@ def values_of_case(operation, *numbers):
 
 
 def test_inputs_try_the_rounding_of_terms():
-    """Enough stored sheets have a tie that half up would round otherwise, in every term."""
+    """Enough stored sheets have a tie that another rule would round otherwise, in every term."""
     C_Ctr_thirds, C_Ctr_octaves = {(A3, 0), (A3, 1)}, {(A1, 0), (A1, 1)}
     impact = {(I3, 0), (I1, 0)}
     for operation, least, places in ((1, 100, C_Ctr_thirds | C_Ctr_octaves | impact),
-                                     (10, 10, {(I3, 0)}), (11, 5, C_Ctr_thirds)):
-        sheets = tied = other = 0
-        met = set()
+                                     (10, 4, {(I3, 0)}), (11, 5, C_Ctr_thirds)):
+        sheets = []
         for case in inputs_of(operation):
-            if answer_of_case(case)[0] != 0:
-                continue
+            if answer_of_case(case)[0] == 0:
+                kind, values = values_of_case(*case)
+                terms = terms_in_tenths(kind, values, rating_of(kind, values))
+                sheets.append({(kind, place): tenths for place, tenths in enumerate(terms)})
+        tied = sum(any(tenths % 10 == 5 for tenths in terms.values()) for terms in sheets)
+        told = f"operation {operation}: {len(sheets)} sheets, {tied} with a tie"
+        for rule in (half_up, half_down, half_away):
+            other = [{place for place, tenths in terms.items()
+                      if rule(tenths) != energies.whole_decibels(tenths)} for terms in sheets]
+            count = sum(map(bool, other))
+            told += f", {count} other by {rule.__name__}"
+            assert count >= least, (operation, rule)
+            same(set().union(*other), places, (operation, rule))
+        print(told)
+
+
+def test_inputs_meet_ties_of_deciding_numbers():
+    """Some grade would have another deciding number if that were rounded after the sum."""
+    others = 0
+    for case in inputs_of(11):
+        answer = answer_of_case(case)
+        if answer[0] == 0:
+            rated = answer[1]
             kind, values = values_of_case(*case)
-            terms = terms_in_tenths(kind, values, rating_of(kind, values))
-            odd = {(kind, place) for place, tenths in enumerate(terms)
-                   if energies.whole_decibels(tenths) != half_up(tenths)}
-            sheets += 1
-            tied += any(tenths % 10 == 5 for tenths in terms)
-            other += bool(odd)
-            met |= odd
-        print(f"operation {operation}: {sheets} sheets, {tied} with a tie, "
-              f"{other} that half up would give otherwise")
-        assert other >= least, operation
-        same(met, places, operation)
+            term = terms_in_tenths(kind, values, rated)[case[1] == rooms.OUTSIDE]
+            others += energies.whole_decibels(10 * rated + term) != answer[4]
+    assert others > 0, "no deciding number tells them apart"
 
 
 def test_case_lines():

@@ -39,11 +39,12 @@ class Ratings(unittest.TestCase):
         self.assertIs(refusal_of(imbrolt.rate, Kind.A1, DOOR[:4] + [1501]), Refusal.BAND_RANGE)
 
     def test_terms_at_a_half(self):
-        """Ctr of 0.5, C of -1.5 and an impact term of 2.5 dB go to the even number."""
+        """Ctr of 0.5, C of -1.5, an impact term of 2.5 and C of -0.5 dB go to the even number."""
         for kind, values, sheet in (
                 (Kind.A3, [*(15 * [500]), 430], Sheet(49, -1, 0, 6, False)),
                 (Kind.A1, [360, *(4 * [500])], Sheet(51, -2, -4, 2, False)),
-                (Kind.I3, [680, 660, 660, *(13 * [300])], Sheet(54, 2, None, 23, False))):
+                (Kind.I3, [680, 660, 660, *(13 * [300])], Sheet(54, 2, None, 23, False)),
+                (Kind.A3, [300, *(15 * [500])], Sheet(50, 0, -3, 4, False))):
             self.assertEqual(imbrolt.rate(kind, values), sheet)
 
     def test_marks(self):

@@ -36,4 +36,4 @@ by-gains kind x t ms w e = quick-is kind x t w ∙ e
 pub checked : All table
 unfolding table greatest settle sumTo sumℤ evenHalf halfEven inRange F energyRule u levelRule c k backgroundRule timeRule referencesOf referenceOf spectraC spectraCtr C Ctr deficit total within startOf shifted firstFrom shiftsOf positionOf ratingOf leastTo greatestTo weighted airborneTerm impactTerm accepted limited allTo anyTo listable quickList inTargets listed entriesOf levelBy totalAt byGains listedBy gainsOf leastOf filter masksInOrder choose sheetOf ratedOf floor derivedSet coverOf
 checked =
-    (refl, (refl, (refl, (refl, (refl, (refl, (by-gains A3 even (pos 53) _ tt refl, (refl, (by-gains A3 dipped (pos 52) _ tt refl, (refl, (by-gains A3 twice-dipped (pos 52) _ tt refl, (refl, (refl, (refl, (refl, (refl, (refl, (refl, (refl, (refl, (refl, (refl, (refl, (refl, (refl, (refl, (refl, (refl, (refl, (refl, tt))))))))))))))))))))))))))))))
+    (refl, (refl, (refl, (refl, (refl, (refl, (by-gains A3 even (pos 53) _ tt refl, (refl, (by-gains A3 dipped (pos 52) _ tt refl, (refl, (by-gains A3 twice-dipped (pos 52) _ tt refl, (refl, (refl, (refl, (refl, (refl, (refl, (refl, (refl, (refl, (refl, (refl, (refl, (refl, (refl, (refl, (refl, (refl, (refl, (refl, (refl, (refl, (refl, tt)))))))))))))))))))))))))))))))))

@@ -140,10 +140,13 @@ table =
     -- the covered floor, and the cover
     rating I3 covered (pos 59) ∷
     improves improvements (pos 19) (negℤ (pos 10)) ∷
-    -- ties: 0.5 gives 0, -1.5 gives -2, 2.5 gives 2
+    -- ties: 0.5 gives 0, -1.5 gives -2, 2.5 gives 2; with the other sign the same size
     rounds (pos 5) (pos 0) ∷
     rounds (negℤ (pos 15)) (negℤ (pos 2)) ∷
     rounds (pos 25) (pos 2) ∷
+    rounds (negℤ (pos 5)) (pos 0) ∷
+    rounds (pos 15) (pos 2) ∷
+    rounds (negℤ (pos 25)) (negℤ (pos 2)) ∷
     -- and where they stand: Ctr of 0.5, C of -1.5, an impact term of 2.5
     weighs A3 last-weak (Ctr A3) (pos 5) ∷
     rates A3 last-weak (pos 49) (negℤ (pos 1)) (Given (decibels (pos 0))) 6 ∷

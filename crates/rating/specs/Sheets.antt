@@ -1,5 +1,5 @@
 -- The sheet of a band set, and the rating call: a sheet, or the one refusal that is given. Document 01, "Rating", "Sums of
--- energies" (each term rounded), and the order of refusals: 1, then 4.
+-- energies" (each term rounded, by document 02, request (ii)), and the order of refusals: 1, then 4.
 use mathlib.Core.Bool.{Bool, true, false}
 use mathlib.Core.List.{List, [], _∷_}
 use Prim.Native.Nat.{ℕ}
@@ -31,8 +31,7 @@ use Rattle.rating.specs.Terms.{airborneTerm, impactTerm}
 abbrev pub decibels : ℤ → Decibels
 decibels z = record { 0 = z }
 
--- the first term: C, or the impact term; and the second: Ctr, or none. "Each term is then rounded to a whole dB", by document
--- 02, request (ii)
+-- the first term: C, or the impact term; and the second: Ctr, or none. "Each term is then rounded to a whole dB"
 abbrev pub firstBy : Bool → Kind → (ℕ → ℤ) → ℤ
 firstBy true k x = halfEven (airborneTerm k x (C k))
 firstBy false k x = halfEven (impactTerm k x)

@@ -11,9 +11,9 @@ OUT_OF_RANGE = (LEAST_VALUE - 1, GREATEST_VALUE + 1, LEAST_WORD, GREATEST_WORD)
 
 ISO_EXAMPLE = (204, 163, 177, 226, 224, 227, 248, 266, 280, 305, 318, 325, 334, 330, 310, 255)
 
-# Sheets whose Ctr, C and impact term are ties: 0.5, -1.5 and 2.5 dB.
+# Sheets whose Ctr, C and impact term are ties: 0.5, -1.5 and 2.5 dB; and with a C of -0.5 dB.
 TIED_SHEETS = ((A3, (*(15 * [500]), 430)), (A1, (360, *(4 * [500]))),
-               (I3, (680, 660, 660, *(13 * [300]))))
+               (I3, (680, 660, 660, *(13 * [300]))), (A3, (300, *(15 * [500]))))
 
 
 def word(seeded):

@@ -1,7 +1,8 @@
 """Sums of energies.
 
-Document 01, section "Sums of energies", and c and k of section "Background
-and reverberation". Every number is worked out from its power rule.
+Document 01, section "Sums of energies", with the rounding of document 02,
+"Halves by GB 8170", and c and k of section "Background and reverberation".
+Every number is worked out from its power rule.
 """
 
 from functools import lru_cache

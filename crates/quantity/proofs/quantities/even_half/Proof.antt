@@ -12,7 +12,11 @@ add-result : tie.Need-add-result
 add-result c = search needs
 
 returns : tie.Need-returns
-returns c = even-half-unique _ _ (record { low = omega arith; high = omega arith; tie = λ e. omega arith })
+returns c = even-half-unique _ _ (record {
+  low = omega arith;
+  high = omega arith;
+  tie = λ e. omega arith;
+})
 
 pub even-half-spec : {M : Type 1} → statement M
 even-half-spec = tie.close (tie.spec add-carry add-result returns)
