@@ -13,11 +13,12 @@ use lib.Signed.{shrZ, _≤ℤ_}
 use Rattle.laws.specs.Parts.{P, N}
 use Rattle.laws.proofs.Ints.{ints, plus, minus, opposite, times-P, times-N, apart, eq-made}
 use Rattle.laws.proofs.Floor.{IsFloor, floor-is}
+use Rattle.laws.proofs.Bits.{even-odd}
 use Rattle.quantity.specs.Quantities.{evenHalf, halfEven}
 
 -- ---- the meaning
 
--- how far z is from 0
+-- how far z is from 0, by the parts of z that omega reads
 abbrev pub size : ℤ → ℕ
 size z = P z + N z
 
@@ -95,14 +96,6 @@ pub half-even-near : (t : ℤ) → (10 * P (halfEven t) + N t ≤ P t + 10 * N (
 half-even-near t = half-even-read t (halfEven t) (half-even-is t)
 
 -- ---- there is no other
-
--- no even number is odd
-even-odd : (x y : ℕ) (A : Type 0) → 2 * x ≡ 2 * y + 1 → A
-even-odd x y A e = go (leb x y) refl
-  where
-    go : (le : Bool) → leb x y ≡ le → A
-    go true l = absurd (omega (arith, leb-true x y l))
-    go false l = absurd (omega (arith, leb-false x y l))
 
 -- of two such numbers neither is above the other: they would be one apart at a tie, and both even
 one-way : (t q r : ℤ) → IsHalfEven t q → IsHalfEven t r → P q + N r ≤ P r + N q
