@@ -97,7 +97,7 @@ def terms_in_tenths(kind, values, rating):
 def terms_of(kind, values, rating):
     """The first and the second term in whole dB; impact has no second."""
     terms = [energies.whole_decibels(term) for term in terms_in_tenths(kind, values, rating)]
-    return terms if kind.airborne else (*terms, None)
+    return tuple(terms) if kind.airborne else (*terms, None)
 
 
 class Sheet(NamedTuple):
