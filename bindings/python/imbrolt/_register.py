@@ -25,6 +25,8 @@ class Register:
         >>> first.charged, again.charged, first.sheet == again.sheet, register.owed(7)
         (500, 0, True, 500)
 
+    A register holds no sheets: in one that another version left, a key's sheet is this version's.
+
     Threads may share one, their calls take turns; a thread that calls needs 512 KB of stack.
     """
 

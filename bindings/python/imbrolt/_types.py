@@ -129,7 +129,7 @@ class Value(NamedTuple):
 class Sheet(NamedTuple):
     """What a rating answers; impact has no second term.
 
-    Terms are rounded to a whole decibel, a half to the even one (GB 8170).
+    A term is worked out in tenths and rounded to a whole decibel, a half to the even one (GB 8170).
     """
 
     rating: Decibels

@@ -6,7 +6,8 @@ use std::fmt;
 /// The keys that customers were charged for, up to 512.
 ///
 /// A new key is entered and charged; the same customer, key, kind and bands again get the same
-/// sheet and no charge. So a program that got no answer may ask again.
+/// sheet and no charge. So a program that got no answer may ask again. A register holds no sheets:
+/// in one that another version left, a key's sheet is this version's.
 ///
 /// ```
 /// use imbrolt::{open_register, Fen, Kind, Refusal, Tenths};

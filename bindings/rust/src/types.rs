@@ -79,7 +79,9 @@ pub struct Value {
     pub limit: bool,
 }
 
-/// What a rating answers. Terms are rounded to a whole decibel, a half to the even one (GB 8170).
+/// What a rating answers.
+///
+/// A term is worked out in tenths and rounded to a whole decibel, a half to the even one (GB 8170).
 #[derive(Clone, Copy, Debug, PartialEq, Eq)]
 #[non_exhaustive]
 pub struct Sheet {
