@@ -51,7 +51,7 @@ pub record IsEvenHalf (n m : ℕ) : Type 0 where
   pub high : n ≤ 10 * m + 5
   pub tie : n % 10 ≡ 5 → m ≡ n / 10 + n / 10 % 2
 
-even-half-is : (n : ℕ) → IsEvenHalf n (evenHalf n)
+pub even-half-is : (n : ℕ) → IsEvenHalf n (evenHalf n)
 unfolding evenHalf
 even-half-is n = go (leb (n % 10) 4) (leb 6 (n % 10)) refl refl
   where
@@ -67,9 +67,6 @@ even-half-is n = go (leb (n % 10) 4) (leb 6 (n % 10)) refl refl
         let h : 4 < n % 10 = leb-false (n % 10) 4 d in
         let k : n % 10 < 6 = leb-false 6 (n % 10) u in
         record { low = omega arith; high = omega arith; tie = λ e. refl }
-
-pub even-half-most : (n : ℕ) → 10 * evenHalf n ≤ n + 5
-even-half-most n = even-half-is n .low
 
 pub even-half-unique : (n m : ℕ) → IsEvenHalf n m → m ≡ evenHalf n
 even-half-unique n m h = go (eqb (n % 10) 5) refl

@@ -6,7 +6,7 @@ use lib.IntN.{pos, _-ℤ_}
 use Rattle.laws.specs.Parts.{P, N}
 use Rattle.laws.proofs.Ints.{ints, apart}
 use Rattle.quantity.proofs.Rim.{back}
-use Rattle.quantity.proofs.Halves.{even-half-most, half-even-counted}
+use Rattle.quantity.proofs.Halves.{even-half-is, half-even-counted}
 use Rattle.quantity.proofs.quantities.Tenths.rounded.Statement.{statement}
 use Rattle.quantity.proofs.quantities.Tenths.rounded.Tie as tie
 
@@ -25,7 +25,7 @@ even-half-requires c κs = omega (ints, counted c, c .before .before .pre)
 less-requires : tie.Need-less-requires
 less-requires c κs =
     let b = c .before in
-    (omega (ints, counted b, b .before .before .pre, c .even-half .ensures, even-half-most (b .above .result)), omega arith)
+    (omega (ints, counted b, b .before .before .pre, c .even-half .ensures, even-half-is (b .above .result) .low), omega arith)
 
 returns : tie.Need-returns
 returns c =
