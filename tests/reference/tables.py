@@ -28,19 +28,23 @@ def least_time(step):
     return least(lambda time: k(time) >= step, 10, 2000)
 
 
-# The name in the logic and in the code, the type of an entry, how many stand on a line of the logic, the sentence, the entries.
+# The tables of a rating, which the code has one after another in one array: the name in the logic, and in the code that of the
+# place where it starts, how many entries stand on a line of the logic, the sentence, the entries.
+PARTS = (
+    ("energies", None, 10, "F(0) to F(900)", [F(d) for d in range(901)]),
+    ("levels", "LEVELS", 10, "H(1) to H(120): the least sums that count one tenth more", [H(j) for j in range(1, 121)]),
+    ("starts", "STARTS", 20, "u at the start of each stretch of 2 ^ 24 sums from 10 ^ 9 on",
+     [u(start) for start in range(ALONE, MOST + 1, STRETCH)]),
+)
+
+# The others: the name in the logic and in the code, the type of an entry, and the same.
 TABLES = (
-    ("energies", "ENERGIES", "u32", 10, "F(0) to F(900)", [F(d) for d in range(901)]),
-    ("levels", "LEVELS", "u64", 10, "H(1) to H(120): the least sums that count one tenth more",
-     [H(j) for j in range(1, 121)]),
     ("means", "MEANS", "u64", 10, "G(48) to G(1): the greatest sums that still count a tenth",
      [G(j) for j in range(48, 0, -1)]),
     ("backgrounds", "BACKGROUND", "u8", 10, "c(60) to c(149)", [c(d) for d in range(60, 150)]),
     ("times", "TIMES", "u64", 10,
      "the least times, in hundredths of a second, that add one tenth more, from k = -69 to k = 160",
      [least_time(step) for step in range(-69, 161)]),
-    ("starts", "STARTS", "u8", 20, "u at the start of each stretch of 2 ^ 24 sums from 10 ^ 9 on",
-     [u(start) for start in range(ALONE, MOST + 1, STRETCH)]),
 )
 
 CODE_HEAD = """\
@@ -62,30 +66,43 @@ def sentence(text):
     return text[0].upper() + text[1:] + "."
 
 
+def constant(name, kind, text, entries):
+    """One constant array, one entry to a line, as the formatter lays it out."""
+    lines = "".join(f"    {entry},\n" for entry in entries)
+    return f"\n// {sentence(text)}\npub const {name}: [{kind}; {len(entries)}] = [\n{lines}];\n"
+
+
 def code():
-    """The constants, one entry to a line, as the formatter lays them out."""
-    parts = [CODE_HEAD]
-    for _, name, kind, _, text, entries in TABLES:
-        lines = "".join(f"    {entry},\n" for entry in entries)
-        parts.append(f"\n// {sentence(text)}\npub const {name}: [{kind}; {len(entries)}] = [\n{lines}];\n")
+    """The places of the parts, and the constants."""
+    parts, together = [CODE_HEAD], []
+    for _, name, _, text, entries in PARTS:
+        if name:
+            parts.append(f"\n// From here on {text}.\npub const {name}: usize = {len(together)};\n")
+        together += entries
+    parts.append(constant("PARTS", "u64", f"the tables of a rating, one after another, from {PARTS[0][3]} on", together))
+    parts += [constant(name, kind, text, entries) for _, name, kind, _, text, entries in TABLES]
     return "".join(parts).encode()
+
+
+def listed(name, width, text, entries):
+    """One list."""
+    rows = [entries[at:at + width] for at in range(0, len(entries), width)]
+    body = " ∷\n    ".join(" ∷ ".join(map(str, row)) for row in rows)
+    return f"\n-- {text}\nunfoldable pub {name} : List ℕ\n{name} =\n    {body} ∷ []\n"
 
 
 def logic():
     """The lists."""
-    parts = [LOGIC_HEAD]
-    for name, _, _, width, text, entries in TABLES:
-        rows = [entries[at:at + width] for at in range(0, len(entries), width)]
-        body = " ∷\n    ".join(" ∷ ".join(map(str, row)) for row in rows)
-        parts.append(f"\n-- {text}\nunfoldable pub {name} : List ℕ\n{name} =\n    {body} ∷ []\n")
-    return "".join(parts).encode()
+    lists = [(name, width, text, entries) for name, _, width, text, entries in PARTS]
+    lists += [(name, width, text, entries) for name, _, _, width, text, entries in TABLES]
+    return "".join([LOGIC_HEAD, *(listed(*each) for each in lists)]).encode()
 
 
 def main():
     parser = argparse.ArgumentParser(description=__doc__.splitlines()[0])
     parser.add_argument("--check", action="store_true", help="compare, write nothing")
     handle = check if parser.parse_args().check else write
-    files = (("src/constants.rt", code()), ("proofs/Tables.antt", logic()))
+    files = (("src/constants.rt", code()), ("proofs/Lists.antt", logic()))
     return 0 if all([handle(Path(os.path.relpath(ENERGY / path)), data) for path, data in files]) else 1
 
 

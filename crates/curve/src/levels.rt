@@ -1,5 +1,6 @@
 // The shared rating over levels: sums, the search for the accepted position, and the sum of energies.
 use crate::positions::Position;
+use energy::Cell;
 use quantity::BandSet;
 use quantity::Tenths;
 use quantity::signed::above;
@@ -9,7 +10,7 @@ ghost use mathlib.Core.Bool.{true, _&&_};
 ghost use Prim.Native.Nat.{ℕ, _≤_, _<_};
 ghost use lib.ListN.{getD};
 ghost use Rattle.laws.specs.Sums.{sumTo};
-ghost use Rattle.energy.specs.Energies.{Scaled};
+ghost use Rattle.energy.specs.Tabled.{Scaled};
 ghost use Rattle.quantity.specs.Quantities.{inRange};
 ghost use Rattle.curve.specs.Bands.{accepted};
 ghost use Rattle.curve.specs.Levels.{levelBy, Countable, Entries, Levels, at, totalAt, leastOf, energiesOf, Settled};
@@ -148,8 +149,8 @@ pub fn least(levels: &[u32; 16], bands: usize) -> u32
 }
 
 // The sum of the energies of the levels, m the least of them.
-pub fn energies(levels: &[u32; 16], bands: usize, m: u32, powers: &[u32; 901]) -> u64
-    requires { ⌜ Scaled (now powers) ⌝ }
+pub fn energies(levels: &[u32; 16], bands: usize, m: u32, tables: &[Cell], many: bool) -> u64
+    requires { ⌜ Scaled many (now tables) ⌝ }
     requires { ⌜ bands ≤ 16 ⌝ }
     requires { ⌜ ((i : ℕ) → i < bands → m ≤ at (now levels) i) ⌝ }
     ensures { λ r. ⌜ r ≡ energiesOf (at (now (levels .entry))) bands m ⌝ }
@@ -157,7 +158,7 @@ pub fn energies(levels: &[u32; 16], bands: usize, m: u32, powers: &[u32; 901]) -
     let mut sum = 0u64;
     let mut i = 0;
     while i < bands {
-        sum += energy::energy(powers, levels[i] - m) as u64;
+        sum += energy::energy(tables, many, levels[i] - m) as u64;
         i += 1;
     }
     sum

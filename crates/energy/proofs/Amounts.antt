@@ -17,7 +17,7 @@ use Rattle.energy.specs.Steps.{Reached}
 use Rattle.energy.proofs.Powers.{ten-up, pass-down}
 use Rattle.energy.proofs.Weights.{down-place, number-within}
 use Rattle.energy.proofs.Thresholds.{threshold, meets, misses}
-use Rattle.energy.proofs.Tables.{backgrounds, times}
+use Rattle.energy.proofs.Lists.{backgrounds, times}
 
 -- ---- c
 down-c : (d : ℕ) → Down (backgroundRule d)

@@ -14,7 +14,7 @@ use Rattle.energy.specs.Energies.{F}
 use Rattle.energy.specs.Means.{v, meanRule, least₃, sum₃, mean₃}
 use Rattle.energy.proofs.Powers.{ten-up}
 use Rattle.energy.proofs.Scaled.{F-greatest, entry-is}
-use Rattle.energy.proofs.Tables.{energies}
+use Rattle.energy.proofs.Lists.{energies}
 use Rattle.energy.proofs.Weights.{weight, up-sum, up-place}
 use Rattle.energy.proofs.Threes.{whole, v-greatest, v-most, sum-bounds}
 

@@ -1,9 +1,10 @@
 -- Laws of the energies.
-pub mod Tables
+pub mod Lists
 pub mod Powers
 pub mod Weights
 pub mod Scaled
 pub mod Thresholds
+pub mod Laid
 pub mod Threes
 pub mod Amounts
 pub mod Between

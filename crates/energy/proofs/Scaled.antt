@@ -10,7 +10,7 @@ use Rattle.laws.proofs.Extremes.{Down, found, found-is}
 use Rattle.laws.proofs.Table.{both, both-left, both-right, every, at}
 use Rattle.energy.specs.Energies.{F, energyRule}
 use Rattle.energy.proofs.Powers.{ten-up, ten-pos, grow, pass-down}
-use Rattle.energy.proofs.Tables.{energies}
+use Rattle.energy.proofs.Lists.{energies}
 
 down : (d : ℕ) → Down (energyRule d)
 unfolding energyRule

@@ -17,7 +17,7 @@ use Rattle.energy.specs.Means.{v, meanRule, MeanRule, least₃, sum₃}
 use Rattle.energy.specs.Steps.{Reached}
 use Rattle.energy.proofs.Weights.{weight, up-sum, down-place, number-within}
 use Rattle.energy.proofs.Scaled.{F-first, F-most}
-use Rattle.energy.proofs.Tables.{means}
+use Rattle.energy.proofs.Lists.{means}
 
 abbrev pub whole : ℕ
 whole = 3 ^ 200 * 10 ^ 1800

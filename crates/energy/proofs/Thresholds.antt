@@ -12,10 +12,10 @@ use lib.ListN.{length, getD}
 use Rattle.laws.specs.Extremes.{Greatest, Least, Number}
 use Rattle.laws.proofs.Extremes.{Down, found, number-of}
 use Rattle.laws.proofs.Table.{both, both-left, both-right, every, at}
-use Rattle.energy.specs.Energies.{u, levelRule, AtLeast, Summed, Thresholds, Starts}
+use Rattle.energy.specs.Energies.{u, levelRule, AtLeast, Summed}
 use Rattle.energy.specs.Steps.{Reached}
 use Rattle.energy.proofs.Powers.{ten-up, pass-down}
-use Rattle.energy.proofs.Tables.{levels, starts}
+use Rattle.energy.proofs.Lists.{levels, starts}
 
 abbrev pub threshold : (ℕ → ℕ) → (ℕ → ℕ) → ℕ → ℕ → Bool
 threshold need size i x = both (leb (need (suc i)) (size x)) (ltb (size (x - 1)) (need (suc i)))
@@ -91,11 +91,15 @@ u-greatest : (S : ℕ) → 1000000000 ≤ S → S ≤ 16000000000 → Greatest (
 unfolding u levelRule
 u-greatest S a b = found 8 (levelRule S) (down-u S) (le→leb (need-u 0) (size-u S) (base-u S a)) (top-u S b)
 
--- the table's entries against u
+-- the table's entries against u: one is reached exactly where u is above its place, and no such sum goes on
+pub record Thresholds (table : List ℕ) : Type 0 where
+  pub reached : (S j : ℕ) → Summed S → j < 120 → getD table j 0 ≤ S → j < u S
+  pub missed : (S j : ℕ) → Summed S → j < 120 → S < getD table j 0 → u S ≤ j
+  pub most : (S : ℕ) → Summed S → u S ≤ 120
+
 pub levels-are : Thresholds levels
 unfolding levels levelRule
 levels-are = record {
-  whole = refl;
   reached = λ S j h l k. u-greatest S (h .0) (h .1) .best (suc j) (enough need-u size-u up-u levels checked-u S j l k);
   missed = λ S j h l k. at-most S j h (too-few need-u size-u up-u levels checked-u S j l k);
   most = λ S h. at-most S 120 h (λ t. not-le-of-lt (lt-of-le-of-lt (most-u S (h .1)) (lit< {n = need-u 121} tt)) (leb→le (need-u 121) (size-u S) t));
@@ -140,9 +144,14 @@ high-missed S i k h l t = go (decLt (suc k) 120)
     go (yes s) = levels-are .missed S (suc k) h s (omega (arith, over))
     go (no s) = omega (arith, levels-are .most S h)
 
+-- within a stretch u grows by one at most
+pub record Starts (table : List ℕ) : Type 0 where
+  pub least : (S : ℕ) → Summed S → getD table ((S - 1000000000) / 16777216) 0 ≤ u S
+  pub most : (S : ℕ) → Summed S → u S ≤ suc (getD table ((S - 1000000000) / 16777216) 0)
+
 pub starts-are : Starts starts
 unfolding start-rule starts
-starts-are = record { whole = refl; least = λ S h. least S ((S - 1000000000) / 16777216) h (omega (arith, h .0)) (omega (arith, h .1)); most = λ S h. most S ((S - 1000000000) / 16777216) h (omega (arith, h .0)) (omega (arith, h .1)) }
+starts-are = record { least = λ S h. least S ((S - 1000000000) / 16777216) h (omega (arith, h .0)) (omega (arith, h .1)); most = λ S h. most S ((S - 1000000000) / 16777216) h (omega (arith, h .0)) (omega (arith, h .1)) }
   where
     rule : (i : ℕ) → i < 895 → T (start-rule i (getD starts i 0))
     rule i h = at start-rule starts checked-starts i h

@@ -1,9 +1,11 @@
 // Numbers of steps by thresholds: how many entries of an ascending table a sum has reached.
 use crate::constants::LEVELS;
 use crate::constants::STARTS;
+use crate::lent::Cell;
 ghost use mathlib.Core.Path.{_≡_};
-ghost use Rattle.energy.specs.Energies.{u, Summed, Thresholds, Starts};
+ghost use Rattle.energy.specs.Energies.{u, Summed};
 ghost use Rattle.energy.specs.Steps.{Reached};
+ghost use Rattle.energy.specs.Tabled.{Stepped};
 
 // How many entries of an ascending table are at most s, by halving.
 pub fn reached(table: &[u64], s: u64) -> usize
@@ -22,34 +24,19 @@ pub fn reached(table: &[u64], s: u64) -> usize
     low
 }
 
-// The thresholds, to be named once for many sums: where an array is named, it is laid out.
-pub fn level_thresholds() -> [u64; 120]
-    ensures { λ r. ⌜ Thresholds r ⌝ }
-{
-    LEVELS
-}
-
-// Where the search for u(S) starts: the sums are cut into stretches of 2^24, and no stretch holds two thresholds. To be named
-// once for many sums.
-pub fn level_starts() -> [u8; 895]
-    ensures { λ r. ⌜ Starts r ⌝ }
-{
-    STARTS
-}
-
-// u(S): the tenths that a sum of energies stands above one band alone. One threshold is left to compare with.
-pub fn level(thresholds: &[u64; 120], starts: &[u8; 895], s: u64) -> u32
+// u(S): the tenths that a sum of energies stands above one band alone. The sums are cut into stretches of 2^24, and no stretch
+// holds two thresholds: one is left to compare with.
+pub fn level(tables: &[Cell], many: bool, s: u64) -> u32
     requires { ⌜ Summed s ⌝ }
-    requires { ⌜ Thresholds (now thresholds) ⌝ }
-    requires { ⌜ Starts (now starts) ⌝ }
+    requires { ⌜ Stepped many (now tables) ⌝ }
     ensures { λ r. ⌜ r ≡ u s ⌝ }
 {
     let stretch = (s - 1000000000) / 16777216;
-    let below = starts[stretch as usize];
+    let below = tables[STARTS + stretch as usize];
     if 119 < below {
         return 120;
     }
-    if thresholds[below as usize] <= s {
+    if tables[LEVELS + below as usize] <= s {
         return below as u32 + 1;
     }
     below as u32

@@ -1,14 +1,13 @@
 // The block call: all whole lines of a part of the input, in order.
 use crate::lines::Wrote;
 use crate::lines::answer_at;
-use energy::level_starts;
-use energy::level_thresholds;
-use energy::scaled_powers;
+use energy::Cell;
+use energy::tables_of_many;
 use reply::reply_at;
 ghost use mathlib.Core.Path.{_≡_};
 ghost use Prim.Native.Nat.{_≤_, _-_};
 ghost use lib.ListN.{length};
-ghost use Rattle.energy.specs.Energies.{Tables};
+ghost use Rattle.energy.specs.Tabled.{Tabled};
 ghost use Rattle.line.specs.Blocks.{feedAfter, pieceAt, stepAt, Turned, blockOf, Answered};
 
 // The next piece of a part: the position after it (its own where there is none), and whether a long line goes on past the part.
@@ -89,13 +88,12 @@ fn turn_at(
     wrote: usize,
     skipping: bool,
     last: bool,
-    powers: &[u32; 901],
-    thresholds: &[u64; 120],
-    starts: &[u8; 895],
+    tables: &[Cell],
+    many: bool,
 ) -> Turn
     requires { ⌜ at ≤ length (now s) ⌝ }
     requires { ⌜ wrote ≤ length (now out) ⌝ }
-    requires { ⌜ Tables (now powers) (now thresholds) (now starts) ⌝ }
+    requires { ⌜ Tabled many (now tables) ⌝ }
     ensures { λ r. ⌜ Turned (stepAt (now (s .entry)) at (length (now (out .entry)) - wrote) skipping last) (now (out .entry)) wrote r (now (out .exit)) ⌝ }
 {
     if skipping {
@@ -113,7 +111,7 @@ fn turn_at(
             skipping: false,
         };
     }
-    let reply = reply_at(s, at, powers, thresholds, starts);
+    let reply = reply_at(s, at, tables, many);
     let piece = piece_at(s, at, last, reply.next);
     let next = piece.next;
     if next != at {
@@ -138,28 +136,17 @@ fn turns(
     out: &mut [u8],
     skipping: bool,
     last: bool,
-    powers: &[u32; 901],
-    thresholds: &[u64; 120],
-    starts: &[u8; 895],
+    tables: &[Cell],
+    many: bool,
 ) -> Progress
-    requires { ⌜ Tables (now powers) (now thresholds) (now starts) ⌝ }
+    requires { ⌜ Tabled many (now tables) ⌝ }
     ensures { λ r. ⌜ Answered (blockOf (now (input .entry)) (length (now (out .entry))) skipping last) (now (input .entry)) (now (out .entry)) r (now (out .exit)) ⌝ }
 {
     let mut used = 0usize;
     let mut wrote = 0usize;
     let mut skip = skipping;
     while used < input.len() {
-        let t = turn_at(
-            input,
-            used,
-            out,
-            wrote,
-            skip,
-            last,
-            powers,
-            thresholds,
-            starts,
-        );
+        let t = turn_at(input, used, out, wrote, skip, last, tables, many);
         if t.next == used {
             break;
         }
@@ -179,8 +166,6 @@ fn turns(
 pub fn answer_block(input: &[u8], out: &mut [u8], skipping: bool, last: bool) -> Progress
     ensures { λ r. ⌜ Answered (blockOf (now (input .entry)) (length (now (out .entry))) skipping last) (now (input .entry)) (now (out .entry)) r (now (out .exit)) ⌝ }
 {
-    let powers = scaled_powers();
-    let thresholds = level_thresholds();
-    let starts = level_starts();
-    turns(input, out, skipping, last, &powers, &thresholds, &starts)
+    let tables = tables_of_many();
+    turns(input, out, skipping, last, &tables, true)
 }

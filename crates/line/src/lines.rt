@@ -3,9 +3,7 @@ use answer::put_head;
 use answer::put_none;
 use answer::put_rated;
 use answer::rated_len;
-use energy::level_starts;
-use energy::level_thresholds;
-use energy::scaled_powers;
+use energy::tables;
 use quantity::Refusal;
 use reply::Reply;
 use reply::no_reply;
@@ -75,10 +73,8 @@ fn line_reply(line: &[u8]) -> Reply
     ensures { λ r. ⌜ replyText (now (line .entry)) r ≡ answerOf (now (line .entry)) ⌝ }
     ensures { λ r. ⌜ Keyed (now (line .entry)) r ⌝ }
 {
-    let powers = scaled_powers();
-    let thresholds = level_thresholds();
-    let starts = level_starts();
-    let reply = reply_at(line, 0, &powers, &thresholds, &starts);
+    let tables = tables();
+    let reply = reply_at(line, 0, &tables, false);
     if reply.next == line.len() {
         return reply;
     }

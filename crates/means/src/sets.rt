@@ -1,7 +1,8 @@
 // Means of three: octaves from thirds, and the means of three specimens.
 use curve::levels::all_in_range;
+use energy::Cell;
 use energy::mean_of_three;
-use energy::scaled_powers;
+use energy::tables;
 use kinds::A1Kind;
 use kinds::A3Kind;
 use measurement::Intake;
@@ -15,10 +16,10 @@ use quantity::Tenths;
 use quantity::signed::above;
 use quantity::signed::less;
 ghost use mathlib.Core.Path.{_≡_};
-ghost use mathlib.Core.Bool.{true};
+ghost use mathlib.Core.Bool.{true, false};
 ghost use Prim.Native.Nat.{ℕ, _+_, _*_, _≤_, _<_};
 ghost use lib.ListN.{getD};
-ghost use Rattle.energy.specs.Energies.{Scaled};
+ghost use Rattle.energy.specs.Tabled.{Scaled};
 ghost use Rattle.quantity.specs.Quantities.{inRange, nought};
 ghost use Rattle.measurement.specs.Lists.{weightOf};
 ghost use Rattle.laws.specs.Tests.{bit};
@@ -29,12 +30,12 @@ ghost use Rattle.means.specs.Sets.{marked₃, placed, meansOf, octavesOf
 const READINGS: usize = 3 * A3Kind::BANDS;
 
 // The mean of three band values, each counted from -20.0 dB.
-fn mean(x: Tenths, y: Tenths, z: Tenths, powers: &[u32; 901]) -> Tenths
+fn mean(x: Tenths, y: Tenths, z: Tenths, tables: &[Cell]) -> Tenths
     requires { ⌜ (inRange (x .0) ≡ true) × (inRange (y .0) ≡ true) × (inRange (z .0) ≡ true) ⌝ }
-    requires { ⌜ Scaled (now powers) ⌝ }
+    requires { ⌜ Scaled false (now tables) ⌝ }
     ensures { λ r. ⌜ r .0 ≡ meanOf₃ (x .0) (y .0) (z .0) ⌝ }
 {
-    let counted = mean_of_three(above(x.0, 200), above(y.0, 200), above(z.0, 200), powers);
+    let counted = mean_of_three(above(x.0, 200), above(y.0, 200), above(z.0, 200), tables);
     Tenths(less(counted, 200))
 }
 
@@ -75,12 +76,12 @@ fn means(
     count: usize,
     step: usize,
     stride: usize,
-    powers: &[u32; 901],
+    tables: &[Cell],
 ) -> BandSet
     requires { ⌜ count ≤ 16 ⌝ }
     requires { ⌜ ((j : ℕ) → j < count → j * step + 2 * stride < 48) ⌝ }
     requires { ⌜ ((i : ℕ) → i < 48 → inRange (placed values i) ≡ true) ⌝ }
-    requires { ⌜ Scaled (now powers) ⌝ }
+    requires { ⌜ Scaled false (now tables) ⌝ }
     ensures { λ r. ⌜ r ≡ meansOf (placed values) marks count step stride ⌝ }
 {
     let mut out = [Tenths(0); 16];
@@ -91,7 +92,7 @@ fn means(
         let x = values[i];
         let y = values[i + stride];
         let z = values[i + 2 * stride];
-        let value = mean(x, y, z, powers);
+        let value = mean(x, y, z, tables);
         out[j] = value;
         limits += weight(marked_of_three(marks, i, stride), j);
         j += 1;
@@ -130,8 +131,8 @@ pub fn octaves(set: BandSet) -> Intake
     }
     let thirds = set.values;
     let values = widened(thirds);
-    let powers = scaled_powers();
-    let means = means(values, set.marks as u64, A1Kind::BANDS, 3, 1, &powers);
+    let tables = tables();
+    let means = means(values, set.marks as u64, A1Kind::BANDS, 3, 1, &tables);
     Intake {
         outcome: Outcome::Accepted,
         set: means,
@@ -152,8 +153,8 @@ pub fn specimens(readings: [Reading; 48], len: usize) -> Intake
         Outcome::Refused(refusal) => refused_list(refusal),
         Outcome::Accepted => {
             let values = all.values;
-            let powers = scaled_powers();
-            let means = means(values, all.marks, A3Kind::BANDS, 1, A3Kind::BANDS, &powers);
+            let tables = tables();
+            let means = means(values, all.marks, A3Kind::BANDS, 1, A3Kind::BANDS, &tables);
             Intake {
                 outcome: Outcome::Accepted,
                 set: means,

@@ -7,10 +7,9 @@ use curve::levels::least;
 use curve::levels::levels;
 use curve::levels::settle;
 use curve::levels::sum;
+use energy::Cell;
 use energy::level;
-use energy::level_starts;
-use energy::level_thresholds;
-use energy::scaled_powers;
+use energy::tables;
 use kinds::Kind;
 use kinds::bands_of;
 use kinds::marked;
@@ -25,7 +24,7 @@ use quantity::signed::less;
 ghost use mathlib.Core.Path.{_≡_};
 ghost use mathlib.Core.Bool.{true};
 ghost use Prim.Native.Nat.{ℕ, _≤_, _<_};
-ghost use Rattle.energy.specs.Energies.{Tables};
+ghost use Rattle.energy.specs.Tabled.{Tabled};
 ghost use Rattle.quantity.specs.Quantities.{halfEven, bandOf};
 ghost use Rattle.curve.specs.Bands.{accepted};
 ghost use Rattle.curve.specs.Levels.{Count, at};
@@ -79,20 +78,14 @@ fn sought(kind: Kind, levels: &[u32; 16], bands: usize, limit: u32) -> Accepted
 }
 
 // The least of the levels by one spectrum, and the step of their energies.
-fn weigh(
-    levels: &[u32; 16],
-    bands: usize,
-    powers: &[u32; 901],
-    thresholds: &[u64; 120],
-    starts: &[u8; 895],
-) -> Weighed
-    requires { ⌜ Tables (now powers) (now thresholds) (now starts) ⌝ }
+fn weigh(levels: &[u32; 16], bands: usize, tables: &[Cell], many: bool) -> Weighed
+    requires { ⌜ Tabled many (now tables) ⌝ }
     requires { ⌜ Count bands ⌝ }
     ensures { λ r. ⌜ WeighedOf (at (now (levels .entry))) bands (r .least) (r .step) ⌝ }
 {
     let least = least(levels, bands);
-    let sum = energies(levels, bands, least, powers);
-    let step = level(thresholds, starts, sum);
+    let sum = energies(levels, bands, least, tables, many);
+    let step = level(tables, many, sum);
     Weighed { least, step }
 }
 
@@ -129,32 +122,26 @@ fn term_of(
     airborne: bool,
     origin: Position,
     p: Position,
-    powers: &[u32; 901],
-    thresholds: &[u64; 120],
-    starts: &[u8; 895],
+    tables: &[Cell],
+    many: bool,
 ) -> Decibels
-    requires { ⌜ Tables (now powers) (now thresholds) (now starts) ⌝ }
+    requires { ⌜ Tabled many (now tables) ⌝ }
     requires { ⌜ Count bands ⌝ }
     requires { ⌜ ((i : ℕ) → i < bands → at (now levels) i ≤ 4500) ⌝ }
     requires { ⌜ (origin .0 < 200) × (p .0 < 500) ⌝ }
     ensures { λ r. ⌜ r .0 ≡ halfEven (termOf airborne (origin .0) (at (now (levels .entry))) bands (p .0)) ⌝ }
 {
-    let w = weigh(levels, bands, powers, thresholds, starts);
+    let w = weigh(levels, bands, tables, many);
     let tenths = term_at(w, p, airborne, origin);
     tenths.rounded()
 }
 
-// The sheet of an accepted set, with the tables lent: whoever rates many sets lays them out once.
-pub fn sheet_of(
-    kind: Kind,
-    set: BandSet,
-    powers: &[u32; 901],
-    thresholds: &[u64; 120],
-    starts: &[u8; 895],
-) -> Sheet
-    requires { ⌜ Tables (now powers) (now thresholds) (now starts) ⌝ }
+// The sheet of an accepted set, with the tables lent: whoever rates many sets lays them out once. It is handed on as the answer
+// that it is: a sheet by itself would be copied into one.
+pub fn sheet_of(kind: Kind, set: BandSet, tables: &[Cell], many: bool) -> Rated
+    requires { ⌜ Tabled many (now tables) ⌝ }
     requires { ⌜ accepted set (bandsOf kind) ≡ true ⌝ }
-    ensures { λ r. ⌜ r ≡ sheetOf kind set ⌝ }
+    ensures { λ r. ⌜ r ≡ Rated.Rating (sheetOf kind set) ⌝ }
 {
     let n = numbers_of(kind);
     let entries = n.entries;
@@ -167,44 +154,26 @@ pub fn sheet_of(
     let shifts = accepted.shifts;
     let origin = n.origin;
     let rating = rating_at(p, n.airborne, origin);
-    let first = term_of(
-        &by_first,
-        n.bands,
-        n.airborne,
-        origin,
-        p,
-        powers,
-        thresholds,
-        starts,
-    );
+    let first = term_of(&by_first, n.bands, n.airborne, origin, p, tables, many);
     if n.airborne {
         let other = n.second;
         let by_second = levels(set, n.bands, n.airborne, other);
-        let second = Term::Given(term_of(
-            &by_second,
-            n.bands,
-            n.airborne,
-            origin,
-            p,
-            powers,
-            thresholds,
-            starts,
-        ));
-        Sheet {
+        let second = Term::Given(term_of(&by_second, n.bands, n.airborne, origin, p, tables, many));
+        Rated::Rating(Sheet {
             rating,
             first,
             second,
             shifts,
             limit,
-        }
+        })
     } else {
-        Sheet {
+        Rated::Rating(Sheet {
             rating,
             first,
             second: Term::Absent,
             shifts,
             limit,
-        }
+        })
     }
 }
 
@@ -252,10 +221,8 @@ pub fn rate(kind: Kind, set: BandSet) -> Rated
     match accept(kind, set) {
         Outcome::Refused(refusal) => Rated::Refused(refusal),
         Outcome::Accepted => {
-            let powers = scaled_powers();
-            let thresholds = level_thresholds();
-            let starts = level_starts();
-            Rated::Rating(sheet_of(kind, set, &powers, &thresholds, &starts))
+            let tables = tables();
+            sheet_of(kind, set, &tables, false)
         }
     }
 }

@@ -1,4 +1,5 @@
 // Requests: kind, key and bands, and what they are answered.
+use energy::Cell;
 use kinds::Kind;
 use kinds::bands_of;
 use quantity::BandSet;
@@ -15,7 +16,7 @@ use request::kind_at;
 ghost use mathlib.Core.Path.{_≡_};
 ghost use Prim.Native.Nat.{_+_, _<_};
 ghost use lib.ListN.{length, drop};
-ghost use Rattle.energy.specs.Energies.{Tables};
+ghost use Rattle.energy.specs.Tabled.{Tabled};
 ghost use Rattle.request.specs.Reading.{keySpan, withKey};
 ghost use Rattle.reply.specs.Answers.{noReply, replyAt, replyTo, judgedIn, Clean};
 
@@ -29,15 +30,9 @@ pub struct Reply {
 }
 
 // What a request is answered: 1 where the number of bands is not the kind's, then the first refusal of a band, then its sheet.
-fn judge(
-    kind: Kind,
-    bands: Gathered,
-    powers: &[u32; 901],
-    thresholds: &[u64; 120],
-    starts: &[u8; 895],
-) -> Rated
+fn judge(kind: Kind, bands: Gathered, tables: &[Cell], many: bool) -> Rated
     requires { ⌜ Clean kind bands ⌝ }
-    requires { ⌜ Tables (now powers) (now thresholds) (now starts) ⌝ }
+    requires { ⌜ Tabled many (now tables) ⌝ }
     ensures { λ r. ⌜ r ≡ judgedIn kind bands ⌝ }
 {
     let count = bands.count;
@@ -54,7 +49,7 @@ fn judge(
                 marks: bands.marks,
                 len: count,
             };
-            Rated::Rating(sheet_of(kind, set, powers, thresholds, starts))
+            sheet_of(kind, set, tables, many)
         }
     }
 }
@@ -72,16 +67,9 @@ pub fn no_reply() -> Reply
 }
 
 // The key and the bands of a request that starts `at`.
-fn keyed(
-    s: &[u8],
-    at: usize,
-    kind: Kind,
-    powers: &[u32; 901],
-    thresholds: &[u64; 120],
-    starts: &[u8; 895],
-) -> Reply
+fn keyed(s: &[u8], at: usize, kind: Kind, tables: &[Cell], many: bool) -> Reply
     requires { ⌜ at + 2 < length (now s) ⌝ }
-    requires { ⌜ Tables (now powers) (now thresholds) (now starts) ⌝ }
+    requires { ⌜ Tabled many (now tables) ⌝ }
     ensures { λ r. ⌜ r ≡ replyTo at (withKey kind (now (s .entry)) (at + 3) (keySpan (drop (at + 3) (now (s .entry))))) ⌝ }
 {
     let key = at + 3;
@@ -103,7 +91,7 @@ fn keyed(
     if at + 512 < next {
         return no_reply();
     }
-    let rated = judge(kind, bands, powers, thresholds, starts);
+    let rated = judge(kind, bands, tables, many);
     Reply {
         next,
         kind,
@@ -114,14 +102,8 @@ fn keyed(
 }
 
 // The request at a position, with its answer.
-pub fn reply_at(
-    s: &[u8],
-    at: usize,
-    powers: &[u32; 901],
-    thresholds: &[u64; 120],
-    starts: &[u8; 895],
-) -> Reply
-    requires { ⌜ Tables (now powers) (now thresholds) (now starts) ⌝ }
+pub fn reply_at(s: &[u8], at: usize, tables: &[Cell], many: bool) -> Reply
+    requires { ⌜ Tabled many (now tables) ⌝ }
     ensures { λ r. ⌜ r ≡ replyAt (now (s .entry)) at ⌝ }
 {
     let named = kind_at(s, at);
@@ -131,7 +113,7 @@ pub fn reply_at(
             if byte(s, at + 2) != b'\t' {
                 return no_reply();
             }
-            keyed(s, at, kind, powers, thresholds, starts)
+            keyed(s, at, kind, tables, many)
         }
     }
 }

@@ -9,11 +9,11 @@ use Rattle.curve.proofs.levels.energies.Statement.{statement}
 use Rattle.curve.proofs.levels.energies.Tie as tie
 
 abbrev Inv-loop : tie.InvT-loop
-Inv-loop levels bands m powers sum₀ i₀ sum i =
+Inv-loop levels bands m tables many sum₀ i₀ sum i =
     (i ≤ bands) × (sum ≡ energiesOf (at levels) i m)
 
 abbrev μ-loop : tie.MeasureT-loop
-μ-loop levels bands m powers sum₀ i₀ sum i = bands - i
+μ-loop levels bands m tables many sum₀ i₀ sum i = bands - i
 
 loop-holds : tie.Need-loop-holds Inv-loop μ-loop
 loop-holds c = (omega arith, energies-none _ _)
@@ -25,10 +25,10 @@ element-copy-out-energy : tie.Need-element-copy-out-energy Inv-loop μ-loop
 element-copy-out-energy c = omega arith
 
 sub-energy : tie.Need-sub-energy Inv-loop μ-loop
-sub-energy c = c .before .before .before .pre .1 .1 (c .before .before .loop .i) (omega arith)
+sub-energy c = c .before .before .before .before .pre .1 .1 (c .before .before .loop .i) (omega arith)
 
 energy-requires : tie.Need-energy-requires Inv-loop μ-loop
-energy-requires c κs = c .before .before .before .pre .0
+energy-requires c κs = c .before .before .before .before .pre .0
 
 cast-sum : tie.Need-cast-sum Inv-loop μ-loop
 cast-sum c = search needs
@@ -36,7 +36,7 @@ cast-sum c = search needs
 add-sum : tie.Need-add-sum Inv-loop μ-loop
 add-sum c =
     let b = c .before .before .before in
-    omega (arith, energies-most (at (b .before .args .levels .now)) (b .loop .i) (b .before .args .m), c .energy .ok)
+    omega (arith, energies-most (at (b .before .before .args .levels .now)) (b .loop .i) (b .before .before .args .m), c .energy .ok)
 
 add-i : tie.Need-add-i Inv-loop μ-loop
 add-i c = omega arith
@@ -49,7 +49,7 @@ loop-again c = (omega arith, energies-more _ _ _ _ _ (c .before .before .before 
 
 returns : tie.Need-returns Inv-loop μ-loop
 returns c =
-    let a = c .before .before .args in
+    let a = c .before .before .before .args in
     let e : c .before .loop .i ≡ a .bands = omega arith in
     c .before .loop .inv .1 ∙ ap (λ (n : ℕ). energiesOf (at (a .levels .now)) n (a .m)) e
 

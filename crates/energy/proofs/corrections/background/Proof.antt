@@ -6,7 +6,7 @@ use borrow.Author.Needs.{needs}
 use mathlib.Core.Path.{_≡_}
 use Rattle.energy.specs.Corrections.{c as c-of}
 use Rattle.energy.proofs.Amounts.{background-is, background-small}
-use Rattle.energy.proofs.Tables.{backgrounds}
+use Rattle.energy.proofs.Lists.{backgrounds}
 use Rattle.energy.proofs.corrections.background.Statement.{statement}
 use Rattle.energy.proofs.corrections.background.Tie as tie
 

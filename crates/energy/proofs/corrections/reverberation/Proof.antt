@@ -1,6 +1,6 @@
 -- `energy::corrections::reverberation` meets its contract: the table of times is one of thresholds. Assumes nothing.
 use borrow.Author.Needs.{needs}
-use Rattle.energy.proofs.Tables.{times}
+use Rattle.energy.proofs.Lists.{times}
 use Rattle.energy.proofs.Amounts.{time-is}
 use Rattle.energy.proofs.corrections.reverberation.Statement.{statement}
 use Rattle.energy.proofs.corrections.reverberation.Tie as tie

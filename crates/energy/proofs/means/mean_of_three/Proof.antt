@@ -50,7 +50,7 @@ add-s-2 c = search needs
 
 -- the least of the three, and that the energies add up to the sum of the definition, which is bounded
 abbrev start : tie.After-energy3 → tie.Start
-start c = c .before .before .before .before .before
+start c = c .before .before .before .before .before .before
 
 abbrev sum : tie.After-energy3 → ℕ
 sum c = sum₃ (start c .args .x) (start c .args .y) (start c .args .z)

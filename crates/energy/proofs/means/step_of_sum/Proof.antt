@@ -1,6 +1,6 @@
 -- `energy::means::step_of_sum` meets its contract: the table of G, read from its end. Assumes nothing.
 use borrow.Author.Needs.{needs}
-use Rattle.energy.proofs.Tables.{means}
+use Rattle.energy.proofs.Lists.{means}
 use Rattle.energy.proofs.Threes.{step-is}
 use Rattle.energy.proofs.means.step_of_sum.Statement.{statement}
 use Rattle.energy.proofs.means.step_of_sum.Tie as tie

@@ -1,6 +1,6 @@
 -- `energy::steps::level` meets its contract: u lies between the start of its stretch and one more. Assumes nothing.
 use borrow.Author.Needs.{needs}
-use Prim.Native.Nat.{ℕ, suc, _-_, _/_, _≤_}
+use Prim.Native.Nat.{ℕ, suc, _+_, _-_, _/_, _≤_}
 use native.Mathlib.Omega.{arith}
 use lib.ListN.{getD}
 use Rattle.energy.specs.Energies.{u}
@@ -9,31 +9,37 @@ use Rattle.energy.proofs.steps.level.Tie as tie
 
 -- the start of the stretch: u(S) is that or one more
 abbrev below : tie.Start → ℕ
-below s = getD (s .args .starts .now) ((s .args .s - 1000000000) / 16777216) 0
+below s = getD (s .args .tables .now) (1021 + (s .args .s - 1000000000) / 16777216) 0
 
 least : (s : tie.Start) → below s ≤ u (s .args .s)
-least s = s .pre .1 .1 .least (s .args .s) (s .pre .0)
+least s = s .pre .1 .least (s .args .s) (s .pre .0)
 
 most : (s : tie.Start) → u (s .args .s) ≤ suc (below s)
-most s = s .pre .1 .1 .most (s .args .s) (s .pre .0)
+most s = s .pre .1 .most (s .args .s) (s .pre .0)
 
 sub-stretch : tie.Need-sub-stretch
 sub-stretch c = search needs
 
-element-copy-out-below : tie.Need-element-copy-out-below
-element-copy-out-below c = search needs
+add-below : tie.Need-add-below
+add-below c = search needs
+
+mul-below : tie.Need-mul-below
+mul-below c = search needs
+
+shared-slice-read-below : tie.Need-shared-slice-read-below
+shared-slice-read-below c = search needs
 
 returns : tie.Need-returns
-returns c = omega (arith, least (c .before .before), c .before .before .pre .1 .0 .most _ (c .before .before .pre .0))
+returns c = omega (arith, least (c .before .before), c .before .before .pre .1 .last _ (c .before .before .pre .0))
 
-cast-if2 : tie.Need-cast-if2
-cast-if2 c = search needs
+add-if2 : tie.Need-add-if2
+add-if2 c = search needs
 
 mul-if2 : tie.Need-mul-if2
 mul-if2 c = search needs
 
-element-copy-out-if2 : tie.Need-element-copy-out-if2
-element-copy-out-if2 c = search needs
+shared-slice-read-if2 : tie.Need-shared-slice-read-if2
+shared-slice-read-if2 c = search needs
 
 cast-result : tie.Need-cast-result
 cast-result c = search needs
@@ -44,7 +50,7 @@ add-result c = search needs
 returns-2 : tie.Need-returns-2
 returns-2 c =
     let b = c .before .before .before .before in
-    omega (arith, most b, b .pre .1 .0 .reached (b .args .s) (below b) (b .pre .0) (omega arith) (c .if2 .taken))
+    omega (arith, most b, b .pre .1 .reached (b .args .s) (below b) (b .pre .0) (omega arith) (c .if2 .taken))
 
 cast-result-2 : tie.Need-cast-result-2
 cast-result-2 c = search needs
@@ -52,18 +58,20 @@ cast-result-2 c = search needs
 returns-3 : tie.Need-returns-3
 returns-3 c =
     let b = c .before .before .before .before in
-    omega (arith, least b, b .pre .1 .0 .missed (b .args .s) (below b) (b .pre .0) (omega arith) (c .if2 .left))
+    omega (arith, least b, b .pre .1 .missed (b .args .s) (below b) (b .pre .0) (omega arith) (c .if2 .left))
 
 pub level-spec : {M : Type 1} → statement M
 level-spec =
     tie.close
     (tie.spec
     sub-stretch
-    element-copy-out-below
+    add-below
+    mul-below
+    shared-slice-read-below
     returns
-    cast-if2
+    add-if2
     mul-if2
-    element-copy-out-if2
+    shared-slice-read-if2
     cast-result
     add-result
     returns-2

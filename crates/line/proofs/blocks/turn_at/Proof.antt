@@ -20,14 +20,14 @@ feed-after-requires c κs = search needs
 
 returns : tie.Need-returns
 returns c =
-    let s = c .before .before .before .before .before in
+    let s = c .before .before .before .before .before .before in
     let a = s .args in
     let f = c .before .feed-after in
     turn-past (a .s .now) (a .at) (a .out .now) (a .wrote) (a .skipping) (a .last) (s .pre .1 .0) (f .result) (c .before .before .if1 .taken) (f .ensures) (c .if2 .taken)
 
 returns-2 : tie.Need-returns-2
 returns-2 c =
-    let b = c .before .before .before .before .before in
+    let b = c .before .before .before .before .before .before in
     let g = c .before .feed-after in
     turn-skipped (b .args .s .now) (b .args .at) (b .args .out .now) (b .args .wrote) (b .args .skipping) (b .args .last) (b .pre .1 .0) (g .result) (c .before .before .if1 .taken) (g .ensures) (c .if2 .left)
 
@@ -39,7 +39,7 @@ piece-at-requires c κs = search needs
 
 answer-at-requires : tie.Need-answer-at-requires
 answer-at-requires c κs =
-    reply-keyed (c .before .before .before .before .before .before .before .args .s .now) _ (c .before .before .before .reply-at .result) (c .before .before .before .reply-at .ensures)
+    reply-keyed (c .before .before .before .before .before .before .before .before .args .s .now) _ (c .before .before .before .reply-at .result) (c .before .before .before .reply-at .ensures)
 
 enum-known-n : tie.Need-enum-known-n
 enum-known-n c = search needs
@@ -53,7 +53,7 @@ module _ (w : tie.After-answer-at) where
   read = piece .before
 
   abbrev start : tie.Start
-  start = read .before .before .before .before
+  start = read .before .before .before .before .before
 
   abbrev Leaves : Turn → Type 0
   Leaves t =
@@ -74,8 +74,8 @@ module _ (w : tie.After-answer-at) where
       (read .reply-at .result) (read .reply-at .ensures) (piece .piece-at .result) (piece .piece-at .ensures) (w .before .before .if3 .taken)
       (w .answer-at .result) (w .answer-at .last .1 .1 .0) (w .answer-at .ensures .0) (w .answer-at .ensures .1)
 
-add-t21 : tie.Need-add-t21
-add-t21 c = omega (arith, told (c .before .before .before .before .before) (c .before .n .given .0 .0) (c .before .n .given .1) .0)
+add-t20 : tie.Need-add-t20
+add-t20 c = omega (arith, told (c .before .before .before .before .before) (c .before .n .given .0 .0) (c .before .n .given .1) .0)
 
 same-length : tie.Need-same-length
 same-length c = search needs
@@ -96,7 +96,7 @@ returns-5 : tie.Need-returns-5
 returns-5 c =
     let p = c .before in
     let r = p .before in
-    let e = r .before .before .before .before in
+    let e = r .before .before .before .before .before in
     turn-none (e .args .s .now) (e .args .at) (e .args .out .now) (e .args .wrote) (e .args .skipping) (e .args .last) (e .pre .1 .0) (r .before .if1 .left)
     (r .reply-at .result) (r .reply-at .ensures) (p .piece-at .result) (p .piece-at .ensures) (c .if3 .left)
 
@@ -111,7 +111,7 @@ turn-at-spec =
     piece-at-requires
     answer-at-requires
     enum-known-n
-    add-t21
+    add-t20
     same-length
     returns-3
     enum-told

@@ -9,18 +9,18 @@ use Rattle.line.proofs.blocks.turns.Statement.{statement}
 use Rattle.line.proofs.blocks.turns.Tie as tie
 
 abbrev Inv-loop : tie.InvT-loop
-Inv-loop input out₀ skipping last powers thresholds starts used₀ wrote₀ skip₀ out used wrote skip = Going input out₀ skipping last used wrote skip out
+Inv-loop input out₀ skipping last tables many used₀ wrote₀ skip₀ out used wrote skip = Going input out₀ skipping last used wrote skip out
 
 abbrev μ-loop : tie.MeasureT-loop
-μ-loop input out₀ skipping last powers thresholds starts used₀ wrote₀ skip₀ out used wrote skip = length input - used
+μ-loop input out₀ skipping last tables many used₀ wrote₀ skip₀ out used wrote skip = length input - used
 
 loop-holds : tie.Need-loop-holds Inv-loop μ-loop
 loop-holds c =
-    let a = c .before .before .args in
+    let a = c .before .before .before .args in
     going-start (a .input .now) (a .out .now) (a .skipping) (a .last)
 
 turn-at-requires : tie.Need-turn-at-requires Inv-loop μ-loop
-turn-at-requires c κs = (c .before .before .loop .inv .within, (going-room (c .before .before .loop .inv), c .before .before .before .before .before .pre))
+turn-at-requires c κs = (c .before .before .loop .inv .within, (going-room (c .before .before .loop .inv), c .before .before .before .before .before .before .pre))
 
 loop-less : tie.Need-loop-less Inv-loop μ-loop
 loop-less c = omega (arith, turn-ahead (c .before .before .before .before .before .before .before .loop .inv) (c .before .before .before .before .turn-at .ensures) (c .if1 .left))

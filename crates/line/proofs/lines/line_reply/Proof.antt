@@ -8,24 +8,19 @@ use borrow.Author.Needs.{needs}
 use Rattle.line.proofs.lines.line_reply.Statement.{statement}
 use Rattle.line.proofs.lines.line_reply.Tie as tie
 
-scaled-powers-requires : tie.Need-scaled-powers-requires
-scaled-powers-requires c κs = search needs
+tables-requires : tie.Need-tables-requires
+tables-requires c κs = search needs
 
-level-thresholds-requires : tie.Need-level-thresholds-requires
-level-thresholds-requires c κs = search needs
-
-level-starts-requires : tie.Need-level-starts-requires
-level-starts-requires c κs = search needs
+slice-aggregate-reply-at : tie.Need-slice-aggregate-reply-at
+slice-aggregate-reply-at c = search needs
 
 reply-at-requires : tie.Need-reply-at-requires
-reply-at-requires c κs =
-    let t = c .before .before .before in
-    record { scaled = t .before .before .scaled-powers .ensures; reached = t .before .level-thresholds .ensures; started = t .level-starts .ensures }
+reply-at-requires c κs = c .before .tables .ensures
 
 returns : tie.Need-returns
 returns c =
     let r = c .before .before in
-    let a = r .before .before .before .before .before .before .before .before .args in
+    let a = r .before .before .before .before .args in
     (line-whole (a .line .now) (r .reply-at .result) (r .reply-at .ensures) (c .if1 .taken), reply-keyed (a .line .now) 0 (r .reply-at .result) (r .reply-at .ensures))
 
 no-reply-requires : tie.Need-no-reply-requires
@@ -34,9 +29,9 @@ no-reply-requires c κs = search needs
 returns-2 : tie.Need-returns-2
 returns-2 c =
     let r = c .before .before .before in
-    let a = r .before .before .before .before .before .before .before .before .args in
+    let a = r .before .before .before .before .args in
     let e = c .no-reply .ensures in
     (ap (replyText (a .line .now)) e ∙ line-other (a .line .now) (r .reply-at .result) (r .reply-at .ensures) (c .before .if1 .left), subst (Keyed (a .line .now)) (sym e) (none-keyed (a .line .now)))
 
 pub line-reply-spec : {M : Type 1} → statement M
-line-reply-spec = tie.close (tie.spec scaled-powers-requires level-thresholds-requires level-starts-requires reply-at-requires returns no-reply-requires returns-2)
+line-reply-spec = tie.close (tie.spec tables-requires slice-aggregate-reply-at reply-at-requires returns no-reply-requires returns-2)

@@ -10,17 +10,17 @@ use Rattle.means.proofs.sets.mean.Statement.{statement}
 use Rattle.means.proofs.sets.mean.Tie as tie
 
 above-requires : tie.Need-above-requires
-above-requires c κs = band-asks _ 200 (c .before .pre .0 .0) (omega arith) (omega arith)
+above-requires c κs = band-asks _ 200 (c .before .before .pre .0 .0) (omega arith) (omega arith)
 
 above-requires-2 : tie.Need-above-requires-2
-above-requires-2 c κs = band-asks _ 200 (c .before .before .before .pre .0 .1) (omega arith) (omega arith)
+above-requires-2 c κs = band-asks _ 200 (c .before .before .before .before .pre .0 .1) (omega arith) (omega arith)
 
 above-requires-3 : tie.Need-above-requires-3
-above-requires-3 c κs = band-asks _ 200 (c .before .before .before .before .before .pre .0 .2) (omega arith) (omega arith)
+above-requires-3 c κs = band-asks _ 200 (c .before .before .before .before .before .before .pre .0 .2) (omega arith) (omega arith)
 
 -- the three values, counted
 abbrev start : tie.After-above3 → tie.Start
-start c = c .before .before .before .before .before .before
+start c = c .before .before .before .before .before .before .before
 
 counted : (c : tie.After-above3) → let a = start c .args in
     Band 200 (a .x .0) (c .before .before .before .before .above .result) × Band 200 (a .y .0) (c .before .before .above2 .result) × Band 200 (a .z .0) (c .above3 .result)

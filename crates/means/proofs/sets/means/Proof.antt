@@ -12,17 +12,17 @@ use Rattle.means.proofs.sets.means.Statement.{statement}
 use Rattle.means.proofs.sets.means.Tie as tie
 
 abbrev Inv-loop : tie.InvT-loop
-Inv-loop marks count step stride powers values out₀ limits₀ j₀ out limits j = Made (placed values) marks count step stride out limits j
+Inv-loop marks count step stride tables values out₀ limits₀ j₀ out limits j = Made (placed values) marks count step stride out limits j
 
 abbrev μ-loop : tie.MeasureT-loop
-μ-loop marks count step stride powers values out₀ limits₀ j₀ out limits j = count - j
+μ-loop marks count step stride tables values out₀ limits₀ j₀ out limits j = count - j
 
 loop-holds : tie.Need-loop-holds Inv-loop μ-loop
 loop-holds c = made-none _ _ _ _ _
 
 -- the three values of the mean lie in the list
-three : (c : tie.In-loop Inv-loop μ-loop) → let a = c .before .before .args in c .before .loop .j * a .step + 2 * a .stride < 48
-three c = c .before .before .pre .1 .0 _ (omega arith)
+three : (c : tie.In-loop Inv-loop μ-loop) → let a = c .before .before .before .args in c .before .loop .j * a .step + 2 * a .stride < 48
+three c = c .before .before .before .pre .1 .0 _ (omega arith)
 
 mul-i : tie.Need-mul-i Inv-loop μ-loop
 mul-i c = omega (arith, three c)
@@ -57,7 +57,7 @@ array-copy-out-z c = omega (arith, three (c .before .before))
 mean-requires : tie.Need-mean-requires Inv-loop μ-loop
 mean-requires c κs =
     let h = three (c .before .before .before) in
-    let p = c .before .before .before .before .before .pre .1 .1 in
+    let p = c .before .before .before .before .before .before .pre .1 .1 in
     ((p .0 _ (omega arith), p .0 _ (omega arith), p .0 _ h), p .1)
 
 mul-out : tie.Need-mul-out Inv-loop μ-loop
@@ -75,7 +75,7 @@ weight-requires c κs = omega arith
 -- what the mark adds
 weighed : (c : tie.After-weight Inv-loop μ-loop)
     → let l = c .before .before .before .before .before .before .before in
-    let a = l .before .args in
+    let a = l .before .before .args in
     c .weight .result ≡ weightOf (markAt (a .marks) (a .step) (a .stride) (l .loop .j)) (l .loop .j)
 weighed c = c .weight .ensures ∙ ap (λ (b : Bool). weightOf b (c .before .before .before .before .before .before .before .loop .j)) (c .before .marked-of-three .ensures)
 

@@ -25,20 +25,23 @@ refused-list-requires-2 c κs = search needs
 enum-told : tie.Need-enum-told
 enum-told c = search needs
 
-scaled-powers-requires : tie.Need-scaled-powers-requires
-scaled-powers-requires c κs = search needs
+tables-requires : tie.Need-tables-requires
+tables-requires c κs = search needs
 
 -- the readings that were asked for, and where all of them were taken
-abbrev taken : tie.After-powers → tie.After-take-all
-taken c = c .before .before .before .before .before
+abbrev taken : tie.After-tables → tie.After-take-all
+taken c = c .before .before .before .before
 
-accepted : (c : tie.After-powers) → taken c .take-all .result .outcome ≡ Accepted
-accepted c = c .before .before .before .enum-told .given .1
+accepted : (c : tie.After-tables) → taken c .take-all .result .outcome ≡ Accepted
+accepted c = c .before .before .enum-told .given .1
+
+slice-aggregate-means : tie.Need-slice-aggregate-means
+slice-aggregate-means c = search needs
 
 means-requires : tie.Need-means-requires
 means-requires c κs =
-    let r = taken c in
-    (omega arith, ((λ j h. omega arith), (taken-values (r .before .before .args .readings) _ (r .take-all .result) (r .before .if1 .left) (r .take-all .ensures) (accepted c), c .before .scaled-powers .ensures)))
+    let r = taken (c .before) in
+    (omega arith, ((λ j h. omega arith), (taken-values (r .before .before .args .readings) _ (r .take-all .result) (r .before .if1 .left) (r .take-all .ensures) (accepted (c .before)), c .before .tables .ensures .scaled)))
 
 returns-2 : tie.Need-returns-2
 returns-2 c =
@@ -48,8 +51,8 @@ returns-2 c =
 
 returns-3 : tie.Need-returns-3
 returns-3 c =
-    let r = taken (c .before) in
-    specimens-made (r .before .before .args .readings) _ (r .take-all .result) (r .before .if1 .left) (r .take-all .ensures) _ (accepted (c .before)) (c .means .ensures)
+    let r = taken (c .before .before) in
+    specimens-made (r .before .before .args .readings) _ (r .take-all .result) (r .before .if1 .left) (r .take-all .ensures) _ (accepted (c .before .before)) (c .means .ensures)
 
 pub specimens-spec : {M : Type 1} → statement M
 specimens-spec =
@@ -61,7 +64,8 @@ specimens-spec =
     enum-known-outcome
     refused-list-requires-2
     enum-told
-    scaled-powers-requires
+    tables-requires
+    slice-aggregate-means
     means-requires
     returns-2
     returns-3)

@@ -1,5 +1,5 @@
 -- `rating::sheets::rate` meets its contract: the refusal, or the sheet, with the tables laid out for it. Assumes nothing.
-use mathlib.Core.Path.{_≡_, sym, _∙_}
+use mathlib.Core.Path.{_≡_, refl, sym, _∙_}
 use borrow.Author.Needs.{needs}
 use Rattle.quantity.specs.declared.refusals.Outcome.the-variants.{Accepted}
 use Rattle.rating.specs.Sheets.{outcomeOf}
@@ -20,20 +20,17 @@ enum-known-refusal c = search needs
 enum-told : tie.Need-enum-told
 enum-told c = search needs
 
-scaled-powers-requires : tie.Need-scaled-powers-requires
-scaled-powers-requires c κs = search needs
+tables-requires : tie.Need-tables-requires
+tables-requires c κs = search needs
 
-level-thresholds-requires : tie.Need-level-thresholds-requires
-level-thresholds-requires c κs = search needs
-
-level-starts-requires : tie.Need-level-starts-requires
-level-starts-requires c κs = search needs
+slice-aggregate-sheet-of : tie.Need-slice-aggregate-sheet-of
+slice-aggregate-sheet-of c = search needs
 
 sheet-of-requires : tie.Need-sheet-of-requires
 sheet-of-requires c κs =
-    let t = c .before .before .before in (
-      record { scaled = t .before .before .scaled-powers .ensures; reached = t .before .level-thresholds .ensures; started = t .level-starts .ensures },
-      fit-accepted _ _ (fit (t .before .before .before)),
+    let t = c .before in (
+      t .tables .ensures,
+      fit-accepted _ _ (fit (t .before)),
     )
 
 returns : tie.Need-returns
@@ -42,7 +39,7 @@ returns c =
 
 returns-2 : tie.Need-returns-2
 returns-2 c =
-    fit-rated _ _ _ (fit (c .before .before .before .before .before .before .before)) (c .sheet-of .ensures)
+    c .sheet-of .ensures ∙ fit-rated _ _ _ (fit (c .before .before .before)) refl
 
 pub rate-spec : {M : Type 1} → statement M
 rate-spec =
@@ -51,9 +48,8 @@ rate-spec =
     accept-requires
     enum-known-refusal
     enum-told
-    scaled-powers-requires
-    level-thresholds-requires
-    level-starts-requires
+    tables-requires
+    slice-aggregate-sheet-of
     sheet-of-requires
     returns
     returns-2)

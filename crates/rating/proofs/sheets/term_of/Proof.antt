@@ -32,7 +32,7 @@ record Small (c : tie.After-weigh) : Type 0 where
 
 small : (c : tie.After-weigh) → Small c
 small c =
-    let b = c .before in
+    let b = c .before .before in
     let g : ℕ → ℕ = level b in
     let n : ℕ = b .args .bands in
     let k : 1 ≤ n = count-some (b .pre .1 .0) in
@@ -42,13 +42,13 @@ small c =
     }
 
 -- so the term is far within what is rounded
-within : (c : tie.After-weigh) → let t = term (c .before) (c .weigh .result .least) (c .weigh .result .step) in (P t ≤ 10000) × (N t ≤ 10000)
+within : (c : tie.After-weigh) → let t = term (c .before .before) (c .weigh .result .least) (c .weigh .result .step) in (P t ≤ 10000) × (N t ≤ 10000)
 within c =
-    let q = c .before .pre .1 .1 .1 in
-    term-small (c .before .args .airborne) _ _ _ _ (q .0) (small c .least) (small c .step) (q .1)
+    let q = c .before .before .pre .1 .1 .1 in
+    term-small (c .before .before .args .airborne) _ _ _ _ (q .0) (small c .least) (small c .step) (q .1)
 
 term-at-requires : tie.Need-term-at-requires
-term-at-requires c κs = let q = c .before .pre .1 .1 .1 in (q .1, q .0, small c .least, small c .step)
+term-at-requires c κs = let q = c .before .before .pre .1 .1 .1 in (q .1, q .0, small c .least, small c .step)
 
 rounded-requires : tie.Need-rounded-requires
 rounded-requires c κs =
@@ -58,7 +58,7 @@ returns : tie.Need-returns
 returns c =
     let w = c .before .before in
     c .rounded .ensures
-    ∙ ap halfEven (c .before .term-at .ensures ∙ ap₂ (term (w .before)) (w .weigh .ensures .least-is) (w .weigh .ensures .step-is))
+    ∙ ap halfEven (c .before .term-at .ensures ∙ ap₂ (term (w .before .before)) (w .weigh .ensures .least-is) (w .weigh .ensures .step-is))
 
 pub term-of-spec : {M : Type 1} → statement M
 term-of-spec = tie.close (tie.spec weigh-requires term-at-requires rounded-requires returns)

@@ -13,25 +13,25 @@ use Rattle.rating.proofs.sheets.weigh.Tie as tie
 abbrev level : tie.Start → ℕ → ℕ
 level s = at (s .args .levels .now)
 
-lowest : (c : tie.After-least) (i : ℕ) → i < c .before .args .bands → c .least .result ≤ level (c .before) i
-lowest c i h = omega (arith, c .least .ensures, least-below (level (c .before)) (c .before .args .bands) i h)
+lowest : (c : tie.After-least) (i : ℕ) → i < c .before .before .args .bands → c .least .result ≤ level (c .before .before) i
+lowest c i h = omega (arith, c .least .ensures, least-below (level (c .before .before)) (c .before .before .args .bands) i h)
 
-energies-are : (c : tie.After-energies) → let s = c .before .before in
+energies-are : (c : tie.After-energies) → let s = c .before .before .before in
     c .energies .result ≡ energiesOf (level s) (s .args .bands) (leastOf (level s) (s .args .bands))
 energies-are c =
-    let s = c .before .before in
+    let s = c .before .before .before in
     c .energies .ensures ∙ ap (energiesOf (level s) (s .args .bands)) (c .before .least .ensures)
 
 least-requires : tie.Need-least-requires
-least-requires c κs = (count-some (c .pre .1), count-most (c .pre .1))
+least-requires c κs = (count-some (c .before .pre .1), count-most (c .before .pre .1))
 
 energies-requires : tie.Need-energies-requires
-energies-requires c κs = (c .before .pre .0 .scaled, (count-most (c .before .pre .1), lowest c))
+energies-requires c κs = (c .before .before .pre .0 .scaled, (count-most (c .before .before .pre .1), lowest c))
 
 level-requires : tie.Need-level-requires
 level-requires c κs =
-    let p = c .before .before .pre in
-    (rw (energies-are c) (energies-bounds _ _ (p .1)), (p .0 .reached, p .0 .started))
+    let p = c .before .before .before .pre in
+    (rw (energies-are c) (energies-bounds _ _ (p .1)), p .0 .stepped)
 
 returns : tie.Need-returns
 returns c = record {

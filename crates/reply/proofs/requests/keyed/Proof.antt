@@ -14,15 +14,15 @@ use Rattle.reply.proofs.requests.keyed.Tie as tie
 -- what the request is answered, and that a key of no byte or of too many is none
 abbrev asked : tie.After-key-span → Reply
 asked c =
-    let a = c .before .before .args in
+    let a = c .before .before .before .args in
     replyTo (a .at) (withKey (a .kind) (a .s .now) (a .at + 3) (keySpan (drop (a .at + 3) (a .s .now))))
 
 module _ (c : tie.After-key-span) where
   no-key : c .key-span .result ≡ 0 → noReply ≡ asked c
-  no-key = key-none (c .before .before .args .s .now) (c .before .before .args .at) (c .before .before .args .kind) (c .key-span .result) (c .key-span .ensures)
+  no-key = key-none (c .before .before .before .args .s .now) (c .before .before .before .args .at) (c .before .before .before .args .kind) (c .key-span .result) (c .key-span .ensures)
 
   long-key : 32 < c .key-span .result → noReply ≡ asked c
-  long-key = key-long (c .before .before .args .s .now) (c .before .before .args .at) (c .before .before .args .kind) (c .key-span .result) (c .key-span .ensures)
+  long-key = key-long (c .before .before .before .args .s .now) (c .before .before .before .args .at) (c .before .before .before .args .kind) (c .key-span .result) (c .key-span .ensures)
 
 -- behind the key: broken bands, none, bands that end too far, or a request
 module _ (c : tie.After-bands-at) where
@@ -30,7 +30,7 @@ module _ (c : tie.After-bands-at) where
   key = c .before .before .before
 
   abbrev start : tie.Start
-  start = key .before .before
+  start = key .before .before .before
 
   broken : c .bands-at .result .next ≡ 0 → noReply ≡ asked key
   broken = bands-broken (start .args .s .now) (start .args .at) (start .args .kind) (key .key-span .result) (key .key-span .ensures) (omega arith) (c .before .if2 .left) (c .bands-at .result) (c .bands-at .ensures)
@@ -90,13 +90,13 @@ returns-5 : tie.Need-returns-5
 returns-5 c = c .no-reply5 .ensures ∙ far (c .before .before .before .before .before) (c .before .if5 .taken)
 
 judge-requires : tie.Need-judge-requires
-judge-requires c κs = (clean (c .before .before .before .before) (c .before .before .before .if3 .left), c .before .before .before .before .before .before .before .before .before .pre .1)
+judge-requires c κs = (clean (c .before .before .before .before) (c .before .before .before .if3 .left), c .before .before .before .before .before .before .before .before .before .before .pre .1)
 
 returns-6 : tie.Need-returns-6
 returns-6 c =
     let b = c .before .before .before .before .before in
     let k = b .before .before .before in
-    let s = k .before .before .args in
+    let s = k .before .before .before .args in
     bands-read (s .s .now) (s .at) (s .kind) (k .key-span .result) (k .key-span .ensures) (omega arith) (b .before .if2 .left) (b .bands-at .result) (c .judge .result) (b .bands-at .ensures)
     (c .before .before .before .before .if3 .left) (c .before .before .if4 .left) (c .before .if5 .left) (c .judge .ensures)
 
