@@ -9,6 +9,7 @@ Every entry is worked out here from its power rule (paper/energies.py).
 import argparse
 import os
 import sys
+import textwrap
 from pathlib import Path
 
 sys.dont_write_bytecode = True
@@ -19,8 +20,9 @@ from paper.search import least
 
 ENERGY = Path(__file__).resolve().parents[2] / "crates" / "energy"
 
-# No stretch of so many sums holds two thresholds H(j); the first starts at the energy of one band.
-STRETCH, ALONE, MOST = 2 ** 24, 10 ** 9, 16 * 10 ** 9
+# The sums of one to sixteen energies, cut into stretches of which none holds more than three thresholds H(j).
+ALONE, MOST = 10 ** 9, 16 * 10 ** 9
+STRETCHES = (*range(ALONE >> 26 << 26, 2 ** 32, 2 ** 26), *range(2 ** 32, MOST + 1, 2 ** 28))
 
 
 def least_time(step):
@@ -28,13 +30,13 @@ def least_time(step):
     return least(lambda time: k(time) >= step, 10, 2000)
 
 
-# The tables of a rating, which the code has one after another in one array: the name in the logic, and in the code that of the
-# place where it starts, how many entries stand on a line of the logic, the sentence, the entries.
+# The tables of a rating, which the code has one after another in one array: the name in the logic, how many entries stand on a
+# line there, the sentence, the entries.
 PARTS = (
-    ("energies", None, 10, "F(0) to F(900)", [F(d) for d in range(901)]),
-    ("levels", "LEVELS", 10, "H(1) to H(120): the least sums that count one tenth more", [H(j) for j in range(1, 121)]),
-    ("starts", "STARTS", 20, "u at the start of each stretch of 2 ^ 24 sums from 10 ^ 9 on",
-     [u(start) for start in range(ALONE, MOST + 1, STRETCH)]),
+    ("energies", 10, "F(0) to F(99)", [F(d) for d in range(100)]),
+    ("levels", 10, "H(1) to H(123): the least sums that count one tenth more", [H(j) for j in range(1, 124)]),
+    ("starts", 20, "u at the start of each stretch of sums: of 2 ^ 26 up to 2 ^ 32, and of 2 ^ 28 from there on",
+     [u(max(start, ALONE)) for start in STRETCHES]),
 )
 
 # The others: the name in the logic and in the code, the type of an entry, and the same.
@@ -69,19 +71,16 @@ def sentence(text):
 def constant(name, kind, text, entries):
     """One constant array, one entry to a line, as the formatter lays it out."""
     lines = "".join(f"    {entry},\n" for entry in entries)
-    return f"\n// {sentence(text)}\npub const {name}: [{kind}; {len(entries)}] = [\n{lines}];\n"
+    head = textwrap.fill(sentence(text), 128, initial_indent="// ", subsequent_indent="// ")
+    return f"\n{head}\npub const {name}: [{kind}; {len(entries)}] = [\n{lines}];\n"
 
 
 def code():
-    """The places of the parts, and the constants."""
-    parts, together = [CODE_HEAD], []
-    for _, name, _, text, entries in PARTS:
-        if name:
-            parts.append(f"\n// From here on {text}.\npub const {name}: usize = {len(together)};\n")
-        together += entries
-    parts.append(constant("PARTS", "u64", f"the tables of a rating, one after another, from {PARTS[0][3]} on", together))
-    parts += [constant(name, kind, text, entries) for _, name, kind, _, text, entries in TABLES]
-    return "".join(parts).encode()
+    """The constants."""
+    parts = [constant(name, kind, text, entries) for _, name, kind, _, text, entries in TABLES]
+    together = [number % 2 ** 32 for *_, entries in PARTS for number in entries]
+    text = "the tables for one set, each number by its low 32 bits: " + "; ".join(text for _, _, text, _ in PARTS)
+    return "".join([CODE_HEAD, constant("PARTS", "u32", text, together), *parts]).encode()
 
 
 def listed(name, width, text, entries):
@@ -93,7 +92,7 @@ def listed(name, width, text, entries):
 
 def logic():
     """The lists."""
-    lists = [(name, width, text, entries) for name, _, width, text, entries in PARTS]
+    lists = [*PARTS]
     lists += [(name, width, text, entries) for name, _, _, width, text, entries in TABLES]
     return "".join([LOGIC_HEAD, *(listed(*each) for each in lists)]).encode()
 

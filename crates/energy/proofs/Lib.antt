@@ -4,7 +4,10 @@ pub mod Powers
 pub mod Weights
 pub mod Scaled
 pub mod Thresholds
+pub mod Starts
+pub mod Inverses
 pub mod Laid
+pub mod Counted
 pub mod Threes
 pub mod Amounts
 pub mod Between

@@ -1,15 +1,18 @@
--- F is the greatest by its rule; the table's test gives F at each entry; F is at most 10 ^ 9. Assumes nothing.
-use mathlib.Core.Path.{_≡_, sym, subst}
+-- F is the greatest by its rule; a hundred tenths further down it is a tenth, rounded down; so the table's test at its hundred
+-- entries gives F everywhere. F is at most 10 ^ 9. Assumes nothing.
+use mathlib.Core.Path.{_≡_, sym, _∙_, ap, subst}
 use mathlib.Core.Bool.{Bool, not}
-use Prim.Native.Nat.{ℕ, suc, _*_, _^_, _≤_, _<_}
-use native.Mathlib.Nat.{pow-le-pow-left, mul-le-mul-right, le-trans, lt-of-lt-of-le, not-le-of-lt, zero-mul, one-mul, mul-one}
+use Prim.Native.Nat.{ℕ, zero, suc, _+_, _*_, _/_, _^_, _≤_, _<_}
+use native.Mathlib.Nat.{pow-le-pow-left, pow-suc, mul-le-mul-right, le-trans, lt-of-lt-of-le, not-le-of-lt, zero-mul, one-mul, mul-one, mul-assoc, div-one, div-mul-le-self, div-div-eq-div-mul}
+use native.Mathlib.Omega.{arith}
 use lib.Dec.{T, leb→le, le→leb, lit<, lit≤, T-not}
 use lib.ListN.{getD}
+use lib.Pow.{pow-add}
 use Rattle.laws.specs.Extremes.{Greatest, greatest}
-use Rattle.laws.proofs.Extremes.{Down, found, found-is}
+use Rattle.laws.proofs.Extremes.{Down, found, found-is, greatest-unique}
 use Rattle.laws.proofs.Table.{both, both-left, both-right, every, at}
 use Rattle.energy.specs.Energies.{F, energyRule}
-use Rattle.energy.proofs.Powers.{ten-up, ten-pos, grow, pass-down}
+use Rattle.energy.proofs.Powers.{ten-up, ten-pos, grow, pass-down, mul-pow}
 use Rattle.energy.proofs.Lists.{energies}
 
 down : (d : ℕ) → Down (energyRule d)
@@ -40,6 +43,35 @@ F-greatest d =
     none : (d : ℕ) → T (energyRule d 0)
     none d = le→leb (0 ^ 100 * 10 ^ d) (10 ^ 900) (subst (λ (x : ℕ). x ≤ 10 ^ 900) (sym (zero-mul (10 ^ d))) (lit≤ tt))
 
+-- a hundred tenths are a factor of ten
+factor : (n d : ℕ) → n ^ 100 * 10 ^ (100 + d) ≡ (n * 10) ^ 100 * 10 ^ d
+factor n d =
+    ap (λ (x : ℕ). n ^ 100 * x) (pow-add 10 100 d)
+    ∙ sym (mul-assoc (n ^ 100) (10 ^ 100) (10 ^ d))
+    ∙ ap (λ (x : ℕ). x * 10 ^ d) (sym (mul-pow n 10 100))
+
+-- the floor of a floor
+pub F-tenth : (d : ℕ) → F (100 + d) ≡ F d / 10
+F-tenth d = greatest-unique (F-greatest (100 + d)) (record { holds = holds; best = best })
+  where
+    holds : (F d / 10) ^ 100 * 10 ^ (100 + d) ≤ 10 ^ 900
+    holds =
+        subst (λ (x : ℕ). x ≤ 10 ^ 900) (sym (factor (F d / 10) d))
+        (le-trans (mul-le-mul-right (10 ^ d) (pow-le-pow-left (div-mul-le-self (F d) 10) 100)) (F-greatest d .holds))
+
+    best : (m : ℕ) → m ^ 100 * 10 ^ (100 + d) ≤ 10 ^ 900 → m ≤ F d / 10
+    best m h = omega (arith, F-greatest d .best (m * 10) (subst (λ (x : ℕ). x ≤ 10 ^ 900) (factor m d) h))
+
+-- so k hundreds divide by ten k times
+pub F-hundreds : (k r : ℕ) → F (100 * k + r) ≡ F r / 10 ^ k
+F-hundreds zero r = ap F (omega arith) ∙ sym (div-one (F r))
+F-hundreds (suc k) r =
+    ap F (omega arith)
+    ∙ F-tenth (100 * k + r)
+    ∙ ap (λ (x : ℕ). x / 10) (F-hundreds k r)
+    ∙ div-div-eq-div-mul (F r) (10 ^ k) 10
+    ∙ ap (λ (x : ℕ). F r / x) (sym (pow-suc 10 k))
+
 pub F-above : (d : ℕ) → 900 < d → 0 ≡ F d
 unfolding energyRule
 F-above d h = is-F d 0
@@ -55,7 +87,7 @@ checked : T (every right 0 energies)
 unfolding right energies energyRule
 checked = tt
 
-pub entry-is : (d : ℕ) → d < 901 → getD energies d 0 ≡ F d
+pub entry-is : (d : ℕ) → d < 100 → getD energies d 0 ≡ F d
 unfolding right energies
 entry-is d h =
     let x : ℕ = getD energies d 0 in

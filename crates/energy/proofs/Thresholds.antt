@@ -2,8 +2,8 @@
 -- need r and not need (r + 1): no order of the table is used. Here for the sums of sixteen bands. Assumes nothing.
 use mathlib.Core.Path.{_≡_, refl, sym, subst}
 use mathlib.Core.Bool.{Bool}
-use mathlib.Core.List.{List, _∷_}
-use Prim.Native.Nat.{ℕ, zero, suc, _+_, _*_, _-_, _/_, _^_, _≤_, _<_}
+use mathlib.Core.List.{List}
+use Prim.Native.Nat.{ℕ, zero, suc, _+_, _*_, _-_, _^_, _≤_, _<_}
 use native.Mathlib.Nat.{pow-le-pow-left, le-trans, lt-of-le-of-lt, not-le-of-lt}
 use native.Mathlib.Decide.{decLt}
 use native.Mathlib.Omega.{arith}
@@ -15,7 +15,7 @@ use Rattle.laws.proofs.Table.{both, both-left, both-right, every, at}
 use Rattle.energy.specs.Energies.{u, levelRule, AtLeast, Summed}
 use Rattle.energy.specs.Steps.{Reached}
 use Rattle.energy.proofs.Powers.{ten-up, pass-down}
-use Rattle.energy.proofs.Lists.{levels, starts}
+use Rattle.energy.proofs.Lists.{levels}
 
 abbrev pub threshold : (ℕ → ℕ) → (ℕ → ℕ) → ℕ → ℕ → Bool
 threshold need size i x = both (leb (need (suc i)) (size x)) (ltb (size (x - 1)) (need (suc i)))
@@ -93,8 +93,8 @@ u-greatest S a b = found 8 (levelRule S) (down-u S) (le→leb (need-u 0) (size-u
 
 -- the table's entries against u: one is reached exactly where u is above its place, and no such sum goes on
 pub record Thresholds (table : List ℕ) : Type 0 where
-  pub reached : (S j : ℕ) → Summed S → j < 120 → getD table j 0 ≤ S → j < u S
-  pub missed : (S j : ℕ) → Summed S → j < 120 → S < getD table j 0 → u S ≤ j
+  pub reached : (S j : ℕ) → Summed S → j < 123 → getD table j 0 ≤ S → j < u S
+  pub missed : (S j : ℕ) → Summed S → j < 123 → S < getD table j 0 → u S ≤ j
   pub most : (S : ℕ) → Summed S → u S ≤ 120
 
 pub levels-are : Thresholds levels
@@ -111,56 +111,6 @@ levels-are = record {
         go : Dec (j < u S) → u S ≤ j
         go (yes k) = absurd (f (down-u S (suc j) (u S) k (u-greatest S (h .0) (h .1) .holds)))
         go (no k) = omega arith
-
--- ---- the starts: the last threshold up to a stretch, and the next but one, which lies behind it; above 118 there is none
-low : ℕ → ℕ → Bool
-low i k = both (leb k 120) (leb (getD (0 ∷ levels) k 0) (1000000000 + 16777216 * i))
-
-high : ℕ → ℕ → Bool
-high i k = leb (1000000000 + 16777216 * suc i) (getD levels (suc k) 0 + 1000000000000 * (k / 119))
-
-start-rule : ℕ → ℕ → Bool
-start-rule i k = both (low i k) (high i k)
-
-checked-starts : T (every start-rule 0 starts)
-unfolding start-rule low high starts levels
-checked-starts = tt
-
-low-reached : (S i k : ℕ) → Summed S → 1000000000 + 16777216 * i ≤ S → T (low i k) → k ≤ u S
-unfolding low
-low-reached S i zero h l t = omega arith
-low-reached S i (suc k) h l t =
-    levels-are .reached S k h (leb→le (suc k) 120 (both-left (leb (suc k) 120) (leb (getD levels k 0) (1000000000 + 16777216 * i)) t))
-    (le-trans (leb→le (getD levels k 0) (1000000000 + 16777216 * i) (both-right (leb (suc k) 120) (leb (getD levels k 0) (1000000000 + 16777216 * i)) t)) l)
-
-high-missed : (S i k : ℕ) → Summed S → S < 1000000000 + 16777216 * suc i → T (high i k) → u S ≤ suc k
-unfolding high
-high-missed S i k h l t = go (decLt (suc k) 120)
-  where
-    over : 1000000000 + 16777216 * suc i ≤ getD levels (suc k) 0 + 1000000000000 * (k / 119)
-    over = leb→le (1000000000 + 16777216 * suc i) (getD levels (suc k) 0 + 1000000000000 * (k / 119)) t
-
-    go : Dec (suc k < 120) → u S ≤ suc k
-    go (yes s) = levels-are .missed S (suc k) h s (omega (arith, over))
-    go (no s) = omega (arith, levels-are .most S h)
-
--- within a stretch u grows by one at most
-pub record Starts (table : List ℕ) : Type 0 where
-  pub least : (S : ℕ) → Summed S → getD table ((S - 1000000000) / 16777216) 0 ≤ u S
-  pub most : (S : ℕ) → Summed S → u S ≤ suc (getD table ((S - 1000000000) / 16777216) 0)
-
-pub starts-are : Starts starts
-unfolding start-rule starts
-starts-are = record { least = λ S h. least S ((S - 1000000000) / 16777216) h (omega (arith, h .0)) (omega (arith, h .1)); most = λ S h. most S ((S - 1000000000) / 16777216) h (omega (arith, h .0)) (omega (arith, h .1)) }
-  where
-    rule : (i : ℕ) → i < 895 → T (start-rule i (getD starts i 0))
-    rule i h = at start-rule starts checked-starts i h
-
-    least : (S i : ℕ) → Summed S → 1000000000 + 16777216 * i ≤ S → i < 895 → getD starts i 0 ≤ u S
-    least S i h l b = low-reached S i (getD starts i 0) h l (both-left (low i (getD starts i 0)) (high i (getD starts i 0)) (rule i b))
-
-    most : (S i : ℕ) → Summed S → S < 1000000000 + 16777216 * suc i → i < 895 → u S ≤ suc (getD starts i 0)
-    most S i h l b = high-missed S i (getD starts i 0) h l (both-right (low i (getD starts i 0)) (high i (getD starts i 0)) (rule i b))
 
 -- the meaning of u: by any H that is the least with its rule, u(S) is the number of j >= 1 with H(j) <= S, of all j
 pub u-number : (H : ℕ → ℕ) → ((j : ℕ) → Least (AtLeast j) (H j)) → (S : ℕ) → 1000000000 ≤ S → S ≤ 16000000000

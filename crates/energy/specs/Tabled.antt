@@ -1,26 +1,56 @@
--- What is asked of the tables of ratings where they are lent, for one set or for many: F, and what the thresholds and the starts tell of u. The shape of
--- the tables stands here and in the code of this crate, and nowhere above it.
-use mathlib.Core.Bool.{Bool}
+-- What is asked of the tables of ratings where they are lent, for one set or for many: F, and what the thresholds and the starts
+-- tell of u. The shape of the tables stands here and in the code of this crate, and nowhere above it.
+use mathlib.Core.Bool.{Bool, true, false, cond}
 use mathlib.Core.List.{List}
 use mathlib.Core.Path.{_≡_}
-use Prim.Native.Nat.{ℕ, suc, _+_, _-_, _/_, _≤_, _<_}
+use Prim.Native.Nat.{ℕ, _+_, _*_, _-_, _/_, _%_, _^_, _≤_, _<_}
+use lib.Dec.{ltb}
 use lib.ListN.{length, getD}
 use Rattle.energy.specs.Energies.{F, u, Summed}
 
--- F(0) to F(900) stand first
-pub record Scaled (many : Bool) (table : List ℕ) : Type 0 where
-  pub long : 901 ≤ length table
-  pub each : (d : ℕ) → d < 901 → getD table d 0 ≡ F d
+-- the first n numbers of F stand first
+abbrev pub Powers : ℕ → List ℕ → Type 0
+Powers n table = (d : ℕ) → d < n → getD table d 0 ≡ F d
 
--- then H(1) to H(120), then u at the start of each stretch of 2 ^ 24 from 10 ^ 9 on: a threshold is reached exactly where u is
--- above its place, no sum goes on past the last, and within a stretch u grows by one at most
+-- for many sets F stands whole, for one its first hundred numbers do, and what follows has moved up
+abbrev pub reach : Bool → ℕ
+reach true = 901
+reach false = 100
+
+pub record Scaled (many : Bool) (table : List ℕ) : Type 0 where
+  pub long : reach many ≤ length table
+  pub each : Powers (reach many) table
+
+-- n times this, over 2 ^ (33 + 3 k), is n over 10 ^ k
+unfoldable pub inverseOf : ℕ → ℕ
+inverseOf k = 2 ^ (33 + 3 * k) / 10 ^ k + 1
+
+-- whether a threshold with these low 32 bits lies above a sum, as a number
+unfoldable pub missedBy : ℕ → ℕ → ℕ
+missedBy S low = (S + 4294967296 - low) / 2147483648 % 2
+
+abbrev pub missedAt : ℕ → List ℕ → ℕ → ℕ
+missedAt S table i = missedBy S (getD table i 0)
+
+-- the stretch of a sum: 2 ^ 26 long up to 2 ^ 32, and 2 ^ 28 from there on
+unfoldable pub stretchOf : ℕ → ℕ
+stretchOf S = cond (ltb S 4294967296) (S / 67108864 - 14) (S / 268435456 + 34)
+
+-- where the starts stand, the one of a sum's stretch
+abbrev pub startIn : Bool → List ℕ → ℕ → ℕ
+startIn many table S = getD table (reach many + 123 + stretchOf S) 0
+
+-- behind F stand H(1) to H(123) by their low 32 bits, then u at the start of each stretch: within a stretch u grows by three at
+-- most, and the bits tell of the next three thresholds whether u goes past them
 pub record Stepped (many : Bool) (table : List ℕ) : Type 0 where
-  pub long : 1916 ≤ length table
-  pub reached : (S j : ℕ) → Summed S → j < 120 → getD table (901 + j) 0 ≤ S → j < u S
-  pub missed : (S j : ℕ) → Summed S → j < 120 → S < getD table (901 + j) 0 → u S ≤ j
-  pub last : (S : ℕ) → Summed S → u S ≤ 120
-  pub least : (S : ℕ) → Summed S → getD table (1021 + (S - 1000000000) / 16777216) 0 ≤ u S
-  pub most : (S : ℕ) → Summed S → u S ≤ suc (getD table (1021 + (S - 1000000000) / 16777216) 0)
+  pub long : reach many + 217 ≤ length table
+  pub fits : (S : ℕ) → Summed S → startIn many table S ≤ 120
+  pub least : (S : ℕ) → Summed S → startIn many table S ≤ u S
+  pub most : (S : ℕ) → Summed S → u S ≤ startIn many table S + 3
+  pub passed : (S i : ℕ) → Summed S → i < 3 → startIn many table S + i < u S
+      → missedAt S table (reach many + startIn many table S + i) ≡ 0
+  pub missed : (S i : ℕ) → Summed S → i < 3 → u S ≤ startIn many table S + i
+      → missedAt S table (reach many + startIn many table S + i) ≡ 1
 
 pub record Tabled (many : Bool) (table : List ℕ) : Type 0 where
   pub scaled : Scaled many table

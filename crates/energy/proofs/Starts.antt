@@ -1,0 +1,190 @@
+-- The starts: u at the start of a stretch is at most three below u within it, and of the next three thresholds the low 32 bits tell
+-- whether a sum of that stretch has reached them, since they lie within 2 ^ 31 of it. Computed tests over the 94 stretches.
+-- Assumes nothing.
+use mathlib.Core.Path.{_≡_, refl}
+use mathlib.Core.Bool.{Bool, true, false, cond}
+use mathlib.Core.List.{List, [], _∷_}
+use Prim.Native.Nat.{ℕ, zero, suc, _+_, _*_, _-_, _/_, _%_, _≤_, _<_}
+use native.Mathlib.Nat.{le-trans}
+use native.Mathlib.Decide.{decLe, decLt}
+use native.Mathlib.Omega.{arith}
+use lib.Dec.{T, leb, ltb, leb→le, ltb→lt, lt→ltb}
+use lib.ListN.{getD}
+use Rattle.laws.proofs.Table.{every, at}
+use Rattle.energy.specs.Energies.{u, Summed}
+use Rattle.energy.specs.Tabled.{stretchOf, missedBy}
+use Rattle.energy.proofs.Lists.{levels, starts}
+use Rattle.energy.proofs.Thresholds.{levels-are}
+
+-- where stretch i begins, and where the next one does
+begin : ℕ → ℕ
+begin i = cond (ltb i 50) ((i + 14) * 67108864) ((i - 34) * 268435456)
+
+next : ℕ → ℕ
+next i = cond (ltb i 50) ((i + 15) * 67108864) ((i - 33) * 268435456)
+
+-- a sum lies in its stretch
+record Lies (S : ℕ) : Type 0 where
+  among : stretchOf S < 94
+  behind : begin (stretchOf S) ≤ S
+  before : S < next (stretchOf S)
+
+chosen : (b : Bool) (x y : ℕ) → T b → cond b x y ≡ x
+chosen true x y t = refl
+chosen false x y t = absurd t
+
+other : (b : Bool) (x y : ℕ) → (T b → ⊥) → cond b x y ≡ y
+other true x y f = absurd (f tt)
+other false x y f = refl
+
+pub stretch-low : (S : ℕ) → S < 4294967296 → stretchOf S ≡ S / 67108864 - 14
+unfolding stretchOf
+stretch-low S l = chosen (ltb S 4294967296) (S / 67108864 - 14) (S / 268435456 + 34) (lt→ltb S 4294967296 l)
+
+pub stretch-high : (S : ℕ) → 4294967296 ≤ S → stretchOf S ≡ S / 268435456 + 34
+unfolding stretchOf
+stretch-high S l = other (ltb S 4294967296) (S / 67108864 - 14) (S / 268435456 + 34) (λ t. omega (arith, ltb→lt S 4294967296 t))
+
+lies : (S : ℕ) → Summed S → Lies S
+unfolding begin next
+lies S h = go (decLt S 4294967296)
+  where
+    i : ℕ
+    i = stretchOf S
+
+    go : Dec (S < 4294967296) → Lies S
+    go (yes l) =
+        let e : i ≡ S / 67108864 - 14 = stretch-low S l in
+        let t : T (ltb i 50) = lt→ltb i 50 (omega (arith, h .0)) in
+        record {
+          among = omega (arith, h .0);
+          behind = omega (arith, h .0, chosen (ltb i 50) ((i + 14) * 67108864) ((i - 34) * 268435456) t);
+          before = omega (arith, h .0, chosen (ltb i 50) ((i + 15) * 67108864) ((i - 33) * 268435456) t);
+        }
+    go (no l) =
+        let e : i ≡ S / 268435456 + 34 = stretch-high S (omega arith) in
+        let f : T (ltb i 50) → ⊥ = λ t. omega (arith, ltb→lt i 50 t) in
+        record {
+          among = omega (arith, h .1);
+          behind = omega (arith, h .1, other (ltb i 50) ((i + 14) * 67108864) ((i - 34) * 268435456) f);
+          before = omega (arith, h .1, other (ltb i 50) ((i + 15) * 67108864) ((i - 33) * 268435456) f);
+        }
+
+-- the tests of stretch i with start k
+fits : ℕ → ℕ → Bool
+fits i k = leb k 120
+
+low : ℕ → ℕ → Bool
+low i k = leb (getD (0 ∷ levels) k 0) (begin i)
+
+high : ℕ → ℕ → Bool
+high i k = leb (next i) (getD levels (k + 3) 0 + 1000000000000 * (k / 120))
+
+three : List ℕ
+three = 0 ∷ 0 ∷ 0 ∷ []
+
+ahead : ℕ → ℕ → ℕ → ℕ → Bool
+ahead i k t x = leb (getD levels (k + t) 0) (begin i + 2147483648)
+
+back : ℕ → ℕ → ℕ → ℕ → Bool
+back i k t x = leb (next i) (getD levels (k + t) 0 + 2147483648)
+
+checked-fits : T (every fits 0 starts)
+unfolding fits starts
+checked-fits = tt
+
+checked-low : T (every low 0 starts)
+unfolding low begin starts levels
+checked-low = tt
+
+checked-high : T (every high 0 starts)
+unfolding high next starts levels
+checked-high = tt
+
+checked-ahead : T (every (λ i k. every (ahead i k) 0 three) 0 starts)
+unfolding ahead three begin starts levels
+checked-ahead = tt
+
+checked-back : T (every (λ i k. every (back i k) 0 three) 0 starts)
+unfolding back three next starts levels
+checked-back = tt
+
+-- the start of a sum's stretch
+abbrev pub startOf : ℕ → ℕ
+startOf S = getD starts (stretchOf S) 0
+
+pub stretch-among : (S : ℕ) → Summed S → stretchOf S < 94
+stretch-among S h = lies S h .among
+
+pub start-fits : (S : ℕ) → Summed S → startOf S ≤ 120
+unfolding fits starts
+start-fits S h = leb→le (startOf S) 120 (at fits starts checked-fits (stretchOf S) (lies S h .among))
+
+pub start-least : (S : ℕ) → Summed S → startOf S ≤ u S
+unfolding low starts
+start-least S h = go (startOf S) (start-fits S h) (at low starts checked-low (stretchOf S) (lies S h .among))
+  where
+    go : (k : ℕ) → k ≤ 120 → T (low (stretchOf S) k) → k ≤ u S
+    go zero g t = omega arith
+    go (suc k) g t =
+        levels-are .reached S k h (omega arith) (le-trans (leb→le (getD levels k 0) (begin (stretchOf S)) t) (lies S h .behind))
+
+pub start-most : (S : ℕ) → Summed S → u S ≤ startOf S + 3
+unfolding high starts
+start-most S h = go (decLt (startOf S) 120)
+  where
+    over : next (stretchOf S) ≤ getD levels (startOf S + 3) 0 + 1000000000000 * (startOf S / 120)
+    over = leb→le (next (stretchOf S)) (getD levels (startOf S + 3) 0 + 1000000000000 * (startOf S / 120))
+        (at high starts checked-high (stretchOf S) (lies S h .among))
+
+    go : Dec (startOf S < 120) → u S ≤ startOf S + 3
+    go (yes l) = levels-are .missed S (startOf S + 3) h (omega arith) (omega (arith, over, lies S h .before))
+    go (no l) = omega (arith, levels-are .most S h)
+
+-- what the low bits tell
+told : (S H : ℕ) → H ≤ S → S < H + 2147483648 → missedBy S (H % 4294967296) ≡ 0
+unfolding missedBy
+told S H a b = omega arith
+
+told-not : (S H : ℕ) → S < H → H ≤ S + 2147483648 → missedBy S (H % 4294967296) ≡ 1
+unfolding missedBy
+told-not S H a b = omega arith
+
+module _ (S : ℕ) (h : Summed S) (t : ℕ) (l : t < 3) where
+  abbrev H : ℕ
+  H = getD levels (startOf S + t) 0
+
+  within : startOf S + t < 123
+  within = omega (arith, start-fits S h)
+
+  above : H ≤ S + 2147483648
+  unfolding ahead three starts
+  above = omega (
+    arith,
+    leb→le H (begin (stretchOf S) + 2147483648)
+        (at (ahead (stretchOf S) (startOf S)) three (at (λ i k. every (ahead i k) 0 three) starts checked-ahead (stretchOf S) (lies S h .among)) t l),
+    lies S h .behind,
+  )
+
+  below : S < H + 2147483648
+  unfolding back three starts
+  below = omega (
+    arith,
+    leb→le (next (stretchOf S)) (H + 2147483648)
+        (at (back (stretchOf S) (startOf S)) three (at (λ i k. every (back i k) 0 three) starts checked-back (stretchOf S) (lies S h .among)) t l),
+    lies S h .before,
+  )
+
+  pub low-passed : startOf S + t < u S → missedBy S (H % 4294967296) ≡ 0
+  low-passed p = go (decLe H S)
+    where
+      go : Dec (H ≤ S) → missedBy S (H % 4294967296) ≡ 0
+      go (yes q) = told S H q below
+      go (no q) = absurd (omega (arith, levels-are .missed S (startOf S + t) h within (omega arith)))
+
+  pub low-missed : u S ≤ startOf S + t → missedBy S (H % 4294967296) ≡ 1
+  low-missed p = go (decLe H S)
+    where
+      go : Dec (H ≤ S) → missedBy S (H % 4294967296) ≡ 1
+      go (yes q) = absurd (omega (arith, levels-are .reached S (startOf S + t) h within q))
+      go (no q) = told-not S H (omega arith) above
