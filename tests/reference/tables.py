@@ -39,10 +39,18 @@ PARTS = (
      [u(max(start, ALONE)) for start in STRETCHES]),
 )
 
+# The tables of a mean, alike: two numbers that no sum of three reaches end the thresholds.
+STEPS = [G(j) for j in range(48, 0, -1)]
+MEAN_PARTS = (
+    PARTS[0],
+    ("means", 10, "G(48) to G(1): the greatest sums that still count a tenth", STEPS),
+    ("ends", 10, "two numbers that no sum reaches", [2 ** 32 - 1] * 2),
+    ("turns", 20, "how many of these sums lie below the start of each stretch of 2 ^ 25",
+     [sum(step <= start for step in STEPS) for start in range((ALONE - 1) >> 25 << 25, 3 * ALONE, 2 ** 25)]),
+)
+
 # The others: the name in the logic and in the code, the type of an entry, and the same.
 TABLES = (
-    ("means", "MEANS", "u64", 10, "G(48) to G(1): the greatest sums that still count a tenth",
-     [G(j) for j in range(48, 0, -1)]),
     ("backgrounds", "BACKGROUND", "u8", 10, "c(60) to c(149)", [c(d) for d in range(60, 150)]),
     ("times", "TIMES", "u64", 10,
      "the least times, in hundredths of a second, that add one tenth more, from k = -69 to k = 160",
@@ -75,12 +83,17 @@ def constant(name, kind, text, entries):
     return f"\n{head}\npub const {name}: [{kind}; {len(entries)}] = [\n{lines}];\n"
 
 
+def joined(name, what, parts):
+    """Tables one after another in one constant array."""
+    text = f"{what}, each number by its low 32 bits: " + "; ".join(text for _, _, text, _ in parts)
+    return constant(name, "u32", text, [number % 2 ** 32 for *_, entries in parts for number in entries])
+
+
 def code():
     """The constants."""
     parts = [constant(name, kind, text, entries) for _, name, kind, _, text, entries in TABLES]
-    together = [number % 2 ** 32 for *_, entries in PARTS for number in entries]
-    text = "the tables for one set, each number by its low 32 bits: " + "; ".join(text for _, _, text, _ in PARTS)
-    return "".join([CODE_HEAD, constant("PARTS", "u32", text, together), *parts]).encode()
+    return "".join([CODE_HEAD, joined("PARTS", "the tables for one set", PARTS),
+                    joined("MEAN_PARTS", "the tables for means", MEAN_PARTS), *parts]).encode()
 
 
 def listed(name, width, text, entries):
@@ -92,7 +105,7 @@ def listed(name, width, text, entries):
 
 def logic():
     """The lists."""
-    lists = [*PARTS]
+    lists = [*PARTS, *MEAN_PARTS[1:]]
     lists += [(name, width, text, entries) for name, _, _, width, text, entries in TABLES]
     return "".join([LOGIC_HEAD, *(listed(*each) for each in lists)]).encode()
 

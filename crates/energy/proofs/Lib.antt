@@ -7,6 +7,7 @@ pub mod Thresholds
 pub mod Starts
 pub mod Inverses
 pub mod Laid
+pub mod Turns
 pub mod Counted
 pub mod Threes
 pub mod Amounts

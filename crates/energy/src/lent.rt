@@ -1,10 +1,11 @@
 // The tables of ratings, as they are lent: cells that nobody but this crate reads.
+use crate::constants::MEAN_PARTS;
 use crate::constants::PARTS;
 ghost use mathlib.Core.Bool.{true, false};
 ghost use mathlib.Core.Path.{_≡_};
 ghost use Prim.Native.Nat.{ℕ, _+_, _<_};
 ghost use lib.ListN.{length, getD};
-ghost use Rattle.energy.specs.Tabled.{Powers, Tabled};
+ghost use Rattle.energy.specs.Tabled.{Powers, Tabled, MeanTabled};
 
 pub type Cell = u32;
 
@@ -13,6 +14,13 @@ pub fn tables() -> [Cell; 317]
     ensures { λ r. ⌜ Tabled false r ⌝ }
 {
     PARTS
+}
+
+// The tables for means of three.
+pub fn mean_tables() -> [Cell; 211]
+    ensures { λ r. ⌜ MeanTabled r ⌝ }
+{
+    MEAN_PARTS
 }
 
 // The first hundred numbers of F, with room for its rest and for what follows it.

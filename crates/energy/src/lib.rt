@@ -13,6 +13,7 @@ pub use corrections::background;
 pub use corrections::reverberation;
 pub use energies::energy;
 pub use lent::Cell;
+pub use lent::mean_tables;
 pub use lent::tables;
 pub use lent::tables_of_many;
 pub use means::mean_of_three;

@@ -2,7 +2,7 @@
 use curve::levels::all_in_range;
 use energy::Cell;
 use energy::mean_of_three;
-use energy::tables;
+use energy::mean_tables;
 use kinds::A1Kind;
 use kinds::A3Kind;
 use measurement::Intake;
@@ -16,10 +16,10 @@ use quantity::Tenths;
 use quantity::signed::above;
 use quantity::signed::less;
 ghost use mathlib.Core.Path.{_≡_};
-ghost use mathlib.Core.Bool.{true, false};
+ghost use mathlib.Core.Bool.{true};
 ghost use Prim.Native.Nat.{ℕ, _+_, _*_, _≤_, _<_};
 ghost use lib.ListN.{getD};
-ghost use Rattle.energy.specs.Tabled.{Scaled};
+ghost use Rattle.energy.specs.Tabled.{MeanTabled};
 ghost use Rattle.quantity.specs.Quantities.{inRange, nought};
 ghost use Rattle.measurement.specs.Lists.{weightOf};
 ghost use Rattle.laws.specs.Tests.{bit};
@@ -32,7 +32,7 @@ const READINGS: usize = 3 * A3Kind::BANDS;
 // The mean of three band values, each counted from -20.0 dB.
 fn mean(x: Tenths, y: Tenths, z: Tenths, tables: &[Cell]) -> Tenths
     requires { ⌜ (inRange (x .0) ≡ true) × (inRange (y .0) ≡ true) × (inRange (z .0) ≡ true) ⌝ }
-    requires { ⌜ Scaled false (now tables) ⌝ }
+    requires { ⌜ MeanTabled (now tables) ⌝ }
     ensures { λ r. ⌜ r .0 ≡ meanOf₃ (x .0) (y .0) (z .0) ⌝ }
 {
     let counted = mean_of_three(above(x.0, 200), above(y.0, 200), above(z.0, 200), tables);
@@ -81,7 +81,7 @@ fn means(
     requires { ⌜ count ≤ 16 ⌝ }
     requires { ⌜ ((j : ℕ) → j < count → j * step + 2 * stride < 48) ⌝ }
     requires { ⌜ ((i : ℕ) → i < 48 → inRange (placed values i) ≡ true) ⌝ }
-    requires { ⌜ Scaled false (now tables) ⌝ }
+    requires { ⌜ MeanTabled (now tables) ⌝ }
     ensures { λ r. ⌜ r ≡ meansOf (placed values) marks count step stride ⌝ }
 {
     let mut out = [Tenths(0); 16];
@@ -131,7 +131,7 @@ pub fn octaves(set: BandSet) -> Intake
     }
     let thirds = set.values;
     let values = widened(thirds);
-    let tables = tables();
+    let tables = mean_tables();
     let means = means(values, set.marks as u64, A1Kind::BANDS, 3, 1, &tables);
     Intake {
         outcome: Outcome::Accepted,
@@ -153,7 +153,7 @@ pub fn specimens(readings: [Reading; 48], len: usize) -> Intake
         Outcome::Refused(refusal) => refused_list(refusal),
         Outcome::Accepted => {
             let values = all.values;
-            let tables = tables();
+            let tables = mean_tables();
             let means = means(values, all.marks, A3Kind::BANDS, 1, A3Kind::BANDS, &tables);
             Intake {
                 outcome: Outcome::Accepted,

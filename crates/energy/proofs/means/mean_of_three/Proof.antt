@@ -65,7 +65,7 @@ bounds : (c : tie.After-energy3) → (1000000000 ≤ sum c) × (sum c ≤ 300000
 bounds c = sum-bounds _ _ _
 
 step-of-sum-requires : tie.Need-step-of-sum-requires
-step-of-sum-requires c κs = rw (added c) (bounds c)
+step-of-sum-requires c κs = rw (added c) (bounds c, start c .pre .1)
 
 -- the step of the sum
 step : (c : tie.After-step-of-sum) → c .step-of-sum .result ≡ v (sum (c .before))

@@ -33,8 +33,8 @@ within c = (c .before .before .if1 .left, sym (c .before .all-in-range .ensures)
 widened-requires : tie.Need-widened-requires
 widened-requires c κs = search needs
 
-tables-requires : tie.Need-tables-requires
-tables-requires c κs = search needs
+mean-tables-requires : tie.Need-mean-tables-requires
+mean-tables-requires c κs = search needs
 
 cast-means : tie.Need-cast-means
 cast-means c = search needs
@@ -46,7 +46,7 @@ means-requires : tie.Need-means-requires
 means-requires c κs =
     let e = c .before .before .before .before .before in
     let v = c .before .before .before .widened in
-    (omega arith, ((λ j h. omega arith), ((λ i h. widened-range _ (v .result) (within e .1) (v .ensures .0) (v .ensures .1) i), c .before .before .tables .ensures .scaled)))
+    (omega arith, ((λ j h. omega arith), ((λ i h. widened-range _ (v .result) (within e .1) (v .ensures .0) (v .ensures .1) i), c .before .before .mean-tables .ensures)))
 
 returns-3 : tie.Need-returns-3
 returns-3 c =
@@ -64,7 +64,7 @@ octaves-spec =
     refused-list-requires-2
     returns-2
     widened-requires
-    tables-requires
+    mean-tables-requires
     cast-means
     slice-aggregate-means
     means-requires

@@ -25,14 +25,14 @@ refused-list-requires-2 c κs = search needs
 enum-told : tie.Need-enum-told
 enum-told c = search needs
 
-tables-requires : tie.Need-tables-requires
-tables-requires c κs = search needs
+mean-tables-requires : tie.Need-mean-tables-requires
+mean-tables-requires c κs = search needs
 
 -- the readings that were asked for, and where all of them were taken
-abbrev taken : tie.After-tables → tie.After-take-all
+abbrev taken : tie.After-mean-tables → tie.After-take-all
 taken c = c .before .before .before .before
 
-accepted : (c : tie.After-tables) → taken c .take-all .result .outcome ≡ Accepted
+accepted : (c : tie.After-mean-tables) → taken c .take-all .result .outcome ≡ Accepted
 accepted c = c .before .before .enum-told .given .1
 
 slice-aggregate-means : tie.Need-slice-aggregate-means
@@ -41,7 +41,7 @@ slice-aggregate-means c = search needs
 means-requires : tie.Need-means-requires
 means-requires c κs =
     let r = taken (c .before) in
-    (omega arith, ((λ j h. omega arith), (taken-values (r .before .before .args .readings) _ (r .take-all .result) (r .before .if1 .left) (r .take-all .ensures) (accepted (c .before)), c .before .tables .ensures .scaled)))
+    (omega arith, ((λ j h. omega arith), (taken-values (r .before .before .args .readings) _ (r .take-all .result) (r .before .if1 .left) (r .take-all .ensures) (accepted (c .before)), c .before .mean-tables .ensures)))
 
 returns-2 : tie.Need-returns-2
 returns-2 c =
@@ -64,7 +64,7 @@ specimens-spec =
     enum-known-outcome
     refused-list-requires-2
     enum-told
-    tables-requires
+    mean-tables-requires
     slice-aggregate-means
     means-requires
     returns-2
