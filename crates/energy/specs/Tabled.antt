@@ -13,7 +13,7 @@ use Rattle.energy.specs.Means.{v}
 abbrev pub Powers : ℕ → List ℕ → Type 0
 Powers n table = (d : ℕ) → d < n → getD table d 0 ≡ F d
 
--- for many sets F stands whole, for one its first hundred numbers do, and what follows has moved up
+-- for many sets F stands whole, for one its first hundred numbers do; what follows F stands behind either
 abbrev pub reach : Bool → ℕ
 reach true = 901
 reach false = 100
@@ -37,7 +37,7 @@ missedAt S table i = missedBy S (getD table i 0)
 unfoldable pub stretchOf : ℕ → ℕ
 stretchOf S = cond (ltb S 4294967296) (S / 67108864 - 14) (S / 268435456 + 34)
 
--- where the starts stand, the one of a sum's stretch
+-- the start of a sum's stretch
 abbrev pub startIn : Bool → List ℕ → ℕ → ℕ
 startIn many table S = getD table (reach many + 123 + stretchOf S) 0
 

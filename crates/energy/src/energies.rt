@@ -5,7 +5,7 @@ ghost use Prim.Native.Nat.{_/_, _^_, _≤_, _<_};
 ghost use Rattle.energy.specs.Energies.{F};
 ghost use Rattle.energy.specs.Tabled.{Scaled, inverseOf};
 
-// What to multiply with to divide by 10^k, all times 2^(33 + 3k).
+// The factor that divides by 10^k, times 2^(33 + 3k). A `match` is no array: nothing is laid out for it.
 fn inverse(k: u32) -> u64
     requires { ⌜ k < 10 ⌝ }
     ensures { λ r. ⌜ r ≡ inverseOf k ⌝ }
@@ -24,7 +24,7 @@ fn inverse(k: u32) -> u64
     }
 }
 
-// A number of the table, divided by ten k times. A division by ten for each would be a branch for each.
+// A number of the table, divided by ten k times: one product for every k, where a division by a constant for each is a branch.
 fn divided(n: u32, k: u32) -> u32
     requires { ⌜ (n ≤ 1000000000) × (k < 10) ⌝ }
     ensures { λ r. ⌜ r ≡ n / 10 ^ k ⌝ }
@@ -32,7 +32,8 @@ fn divided(n: u32, k: u32) -> u32
     ((n as u64 * inverse(k)) >> (33 + 3 * k)) as u32
 }
 
-// F(d): out of the tables for many sets as it is, out of those for one by its hundredth part; above 900 it is 0.
+// F(d): in the tables for many sets as it is, in those for one set the number at d mod 100, divided by ten for each hundred of d;
+// above 900 it is 0.
 pub fn energy(tables: &[Cell], many: bool, d: u32) -> u32
     requires { ⌜ Scaled many (now tables) ⌝ }
     ensures { λ r. ⌜ r ≡ F d ⌝ }
