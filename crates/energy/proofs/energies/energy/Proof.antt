@@ -2,7 +2,7 @@
 use borrow.Author.Needs.{needs}
 use mathlib.Core.Path.{_≡_, sym, _∙_, ap, subst}
 use mathlib.Core.Bool.{Bool, true, false}
-use Prim.Native.Nat.{ℕ, _*_, _-_, _/_, _^_}
+use Prim.Native.Nat.{ℕ, _*_, _-_, _/_, _^_, _≤_, _<_}
 use native.Mathlib.Omega.{arith}
 use lib.ListN.{getD}
 use Rattle.energy.specs.Energies.{F}
@@ -43,6 +43,9 @@ few c = subst (λ (b : Bool). Scaled b (start3 c .args .tables .now)) (c .before
 first : (c : tie.After-shared-slice-known3) → getD (start3 c .args .tables .now) (rest (start3 c .args .d)) 0 ≡ F (rest (start3 c .args .d))
 first c = few c .each (rest (start3 c .args .d)) (omega arith)
 
+most : (c : tie.After-shared-slice-known3) (i : ℕ) → i < 100 → getD (start3 c .args .tables .now) i 0 ≤ 1000000000
+most c i h = omega (arith, few c .each i h, F-most i)
+
 mul-divided : tie.Need-mul-divided
 mul-divided c = search needs
 
@@ -59,7 +62,7 @@ shared-slice-read-divided : tie.Need-shared-slice-read-divided
 shared-slice-read-divided c = omega (arith, few c .long)
 
 divided-requires : tie.Need-divided-requires
-divided-requires c κs = (omega (arith, first c, F-most (rest (start3 c .args .d))), omega arith)
+divided-requires c κs = (most c _ (omega arith), omega arith)
 
 returns-3 : tie.Need-returns-3
 returns-3 c =
