@@ -27,12 +27,15 @@ module _ {many : Bool} {table : List ℕ} (steps : Stepped many table) (S : ℕ)
   first : missedAt S table (reach many + k) ≡ missedAt S table (reach many + k + 0)
   first = ap (missedAt S table) (sym (add-zero (reach many + k)))
 
+  -- n past the start, n thresholds are passed and the others missed
+  told : (n : ℕ) → u S ≡ k + n → u S + bits ≡ k + 3
+  told zero e = omega (arith, first, steps .missed S 0 h (omega arith) (omega arith), steps .missed S 1 h (omega arith) (omega arith), steps .missed S 2 h (omega arith) (omega arith))
+  told (suc zero) e = omega (arith, first, steps .passed S 0 h (omega arith) (omega arith), steps .missed S 1 h (omega arith) (omega arith), steps .missed S 2 h (omega arith) (omega arith))
+  told (suc (suc zero)) e = omega (arith, first, steps .passed S 0 h (omega arith) (omega arith), steps .passed S 1 h (omega arith) (omega arith), steps .missed S 2 h (omega arith) (omega arith))
+  told (suc (suc (suc zero))) e = omega (arith, first, steps .passed S 0 h (omega arith) (omega arith), steps .passed S 1 h (omega arith) (omega arith), steps .passed S 2 h (omega arith) (omega arith))
+  told (suc (suc (suc (suc n)))) e = absurd (omega (arith, steps .most S h))
+
   pub counted : (bits ≤ k + 3) × (k + 3 - bits ≡ u S)
-  counted = go (u S - k) (omega (arith, steps .least S h))
-    where
-      go : (n : ℕ) → u S ≡ k + n → (bits ≤ k + 3) × (k + 3 - bits ≡ u S)
-      go zero e = (omega (arith, first, steps .missed S 0 h (omega arith) (omega arith), steps .missed S 1 h (omega arith) (omega arith), steps .missed S 2 h (omega arith) (omega arith)), omega (arith, first, steps .missed S 0 h (omega arith) (omega arith), steps .missed S 1 h (omega arith) (omega arith), steps .missed S 2 h (omega arith) (omega arith)))
-      go (suc zero) e = (omega (arith, first, steps .passed S 0 h (omega arith) (omega arith), steps .missed S 1 h (omega arith) (omega arith), steps .missed S 2 h (omega arith) (omega arith)), omega (arith, first, steps .passed S 0 h (omega arith) (omega arith), steps .missed S 1 h (omega arith) (omega arith), steps .missed S 2 h (omega arith) (omega arith)))
-      go (suc (suc zero)) e = (omega (arith, first, steps .passed S 0 h (omega arith) (omega arith), steps .passed S 1 h (omega arith) (omega arith), steps .missed S 2 h (omega arith) (omega arith)), omega (arith, first, steps .passed S 0 h (omega arith) (omega arith), steps .passed S 1 h (omega arith) (omega arith), steps .missed S 2 h (omega arith) (omega arith)))
-      go (suc (suc (suc zero))) e = (omega (arith, first, steps .passed S 0 h (omega arith) (omega arith), steps .passed S 1 h (omega arith) (omega arith), steps .passed S 2 h (omega arith) (omega arith)), omega (arith, first, steps .passed S 0 h (omega arith) (omega arith), steps .passed S 1 h (omega arith) (omega arith), steps .passed S 2 h (omega arith) (omega arith)))
-      go (suc (suc (suc (suc n)))) e = absurd (omega (arith, steps .most S h))
+  counted =
+      let e : u S + bits ≡ k + 3 = told (u S - k) (omega (arith, steps .least S h)) in
+      (omega arith, omega arith)

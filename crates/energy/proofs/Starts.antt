@@ -2,13 +2,14 @@
 -- whether a sum of that stretch has reached them, since they lie within 2 ^ 31 of it. Computed tests over the 94 stretches.
 -- Assumes nothing.
 use mathlib.Core.Path.{_≡_, refl}
-use mathlib.Core.Bool.{Bool, true, false, cond}
+use mathlib.Core.Bool.{Bool, cond}
 use mathlib.Core.List.{List, [], _∷_}
 use Prim.Native.Nat.{ℕ, zero, suc, _+_, _*_, _-_, _/_, _%_, _≤_, _<_}
 use native.Mathlib.Nat.{le-trans}
 use native.Mathlib.Decide.{decLe, decLt}
 use native.Mathlib.Omega.{arith}
-use lib.Dec.{T, leb, ltb, leb→le, ltb→lt, lt→ltb}
+use borrow.Author.Tests.{lt-ltb, le-ltb}
+use lib.Dec.{T, leb, ltb, leb→le}
 use lib.ListN.{getD}
 use Rattle.laws.proofs.Table.{every, at}
 use Rattle.energy.specs.Energies.{u, Summed}
@@ -29,46 +30,34 @@ record Lies (S : ℕ) : Type 0 where
   behind : begin (stretchOf S) ≤ S
   before : S < next (stretchOf S)
 
-chosen : (b : Bool) (x y : ℕ) → T b → cond b x y ≡ x
-chosen true x y t = refl
-chosen false x y t = absurd t
-
-other : (b : Bool) (x y : ℕ) → (T b → ⊥) → cond b x y ≡ y
-other true x y f = absurd (f tt)
-other false x y f = refl
-
 pub stretch-low : (S : ℕ) → S < 4294967296 → stretchOf S ≡ S / 67108864 - 14
 unfolding stretchOf
-stretch-low S l = chosen (ltb S 4294967296) (S / 67108864 - 14) (S / 268435456 + 34) (lt→ltb S 4294967296 l)
+stretch-low S l = rw (lt-ltb S 4294967296 l) refl
 
 pub stretch-high : (S : ℕ) → 4294967296 ≤ S → stretchOf S ≡ S / 268435456 + 34
 unfolding stretchOf
-stretch-high S l = other (ltb S 4294967296) (S / 67108864 - 14) (S / 268435456 + 34) (λ t. omega (arith, ltb→lt S 4294967296 t))
+stretch-high S l = rw (le-ltb S 4294967296 l) refl
+
+bounds-low : (i : ℕ) → i < 50 → (begin i ≡ (i + 14) * 67108864) × (next i ≡ (i + 15) * 67108864)
+unfolding begin next
+bounds-low i l = (rw (lt-ltb i 50 l) refl, rw (lt-ltb i 50 l) refl)
+
+bounds-high : (i : ℕ) → 50 ≤ i → (begin i ≡ (i - 34) * 268435456) × (next i ≡ (i - 33) * 268435456)
+unfolding begin next
+bounds-high i l = (rw (le-ltb i 50 l) refl, rw (le-ltb i 50 l) refl)
 
 lies : (S : ℕ) → Summed S → Lies S
-unfolding begin next
 lies S h = go (decLt S 4294967296)
   where
-    i : ℕ
-    i = stretchOf S
-
     go : Dec (S < 4294967296) → Lies S
     go (yes l) =
-        let e : i ≡ S / 67108864 - 14 = stretch-low S l in
-        let t : T (ltb i 50) = lt→ltb i 50 (omega (arith, h .0)) in
-        record {
-          among = omega (arith, h .0);
-          behind = omega (arith, h .0, chosen (ltb i 50) ((i + 14) * 67108864) ((i - 34) * 268435456) t);
-          before = omega (arith, h .0, chosen (ltb i 50) ((i + 15) * 67108864) ((i - 33) * 268435456) t);
-        }
+        let e : stretchOf S ≡ S / 67108864 - 14 = stretch-low S l in
+        let b = bounds-low (stretchOf S) (omega (arith, h .0)) in
+        record { among = omega (arith, h .0); behind = omega (arith, h .0, b .0); before = omega (arith, h .0, b .1) }
     go (no l) =
-        let e : i ≡ S / 268435456 + 34 = stretch-high S (omega arith) in
-        let f : T (ltb i 50) → ⊥ = λ t. omega (arith, ltb→lt i 50 t) in
-        record {
-          among = omega (arith, h .1);
-          behind = omega (arith, h .1, other (ltb i 50) ((i + 14) * 67108864) ((i - 34) * 268435456) f);
-          before = omega (arith, h .1, other (ltb i 50) ((i + 15) * 67108864) ((i - 33) * 268435456) f);
-        }
+        let e : stretchOf S ≡ S / 268435456 + 34 = stretch-high S (omega arith) in
+        let b = bounds-high (stretchOf S) (omega arith) in
+        record { among = omega (arith, h .1); behind = omega (arith, h .1, b .0); before = omega (arith, h .1, b .1) }
 
 -- the tests of stretch i with start k
 fits : ℕ → ℕ → Bool

@@ -1,4 +1,4 @@
-// The tables of ratings, as they are lent: cells that nobody but this crate reads.
+// The tables of ratings and of means, as they are lent: cells that nobody but this crate reads.
 use crate::constants::MEAN_PARTS;
 use crate::constants::PARTS;
 ghost use mathlib.Core.Bool.{true, false};
