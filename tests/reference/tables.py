@@ -44,7 +44,7 @@ STEPS = [G(j) for j in range(48, 0, -1)]
 MEAN_PARTS = (
     PARTS[0],
     ("means", 10, "G(48) to G(1): the greatest sums that still count a tenth", STEPS),
-    ("ends", 10, "two numbers that no sum reaches", [2 ** 32 - 1] * 2),
+    ("ends", 10, "two numbers that no sum goes past", [3 * ALONE] * 2),
     ("turns", 20, "how many of these sums lie below the start of each stretch of 2 ^ 25",
      [sum(step <= start for step in STEPS) for start in range((ALONE - 1) >> 25 << 25, 3 * ALONE, 2 ** 25)]),
 )

@@ -1,8 +1,8 @@
--- u by the start of its stretch: as many more as of the next three thresholds are not missed. Assumes nothing.
+-- u by the start of its stretch: as many more as of the next three thresholds are not missed; and when one is. Assumes nothing.
 use mathlib.Core.Path.{_≡_, sym, ap}
 use mathlib.Core.Bool.{Bool, true, false}
 use mathlib.Core.List.{List}
-use Prim.Native.Nat.{ℕ, zero, suc, _+_, _-_, _≤_}
+use Prim.Native.Nat.{ℕ, zero, suc, _+_, _-_, _%_, _≤_, _<_}
 use native.Mathlib.Nat.{add-zero}
 use native.Mathlib.Omega.{arith}
 use lib.Dec.{lit≤}
@@ -16,6 +16,15 @@ reach-most false = lit≤ tt
 pub missed-most : (S low : ℕ) → missedBy S low ≤ 1
 unfolding missedBy
 missed-most S low = omega arith
+
+-- what the low bits tell of a threshold within 2 ^ 31 of a sum
+pub bits-reached : (S H : ℕ) → H ≤ S → S < H + 2147483648 → missedBy S (H % 4294967296) ≡ 0
+unfolding missedBy
+bits-reached S H a b = omega arith
+
+pub bits-above : (S H : ℕ) → S < H → H ≤ S + 2147483648 → missedBy S (H % 4294967296) ≡ 1
+unfolding missedBy
+bits-above S H a b = omega arith
 
 module _ {many : Bool} {table : List ℕ} (steps : Stepped many table) (S : ℕ) (h : Summed S) where
   abbrev k : ℕ

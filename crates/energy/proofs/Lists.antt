@@ -54,10 +54,10 @@ means =
     2005031752 ∷ 2051734941 ∷ 2099525988 ∷ 2148430230 ∷ 2198473599 ∷ 2249682627 ∷ 2302084468 ∷ 2355706903 ∷ 2410578366 ∷ 2466727949 ∷
     2524185424 ∷ 2582981256 ∷ 2643146619 ∷ 2704713412 ∷ 2767714281 ∷ 2832182628 ∷ 2898152636 ∷ 2965659283 ∷ []
 
--- two numbers that no sum reaches
+-- two numbers that no sum goes past
 unfoldable pub ends : List ℕ
 ends =
-    4294967295 ∷ 4294967295 ∷ []
+    3000000000 ∷ 3000000000 ∷ []
 
 -- how many of these sums lie below the start of each stretch of 2 ^ 25
 unfoldable pub turns : List ℕ

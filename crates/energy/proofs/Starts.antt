@@ -16,6 +16,7 @@ use Rattle.energy.specs.Energies.{u, Summed}
 use Rattle.energy.specs.Tabled.{stretchOf, missedBy}
 use Rattle.energy.proofs.Lists.{levels, starts}
 use Rattle.energy.proofs.Thresholds.{levels-are}
+use Rattle.energy.proofs.Counted.{bits-reached, bits-above}
 
 -- where stretch i begins, and where the next one does
 begin : ℕ → ℕ
@@ -130,15 +131,6 @@ start-most S h = go (decLt (startOf S) 120)
     go (yes l) = levels-are .missed S (startOf S + 3) h (omega arith) (omega (arith, over, lies S h .before))
     go (no l) = omega (arith, levels-are .most S h)
 
--- what the low bits tell
-told : (S H : ℕ) → H ≤ S → S < H + 2147483648 → missedBy S (H % 4294967296) ≡ 0
-unfolding missedBy
-told S H a b = omega arith
-
-told-not : (S H : ℕ) → S < H → H ≤ S + 2147483648 → missedBy S (H % 4294967296) ≡ 1
-unfolding missedBy
-told-not S H a b = omega arith
-
 module _ (S : ℕ) (h : Summed S) (t : ℕ) (l : t < 3) where
   abbrev H : ℕ
   H = getD levels (startOf S + t) 0
@@ -168,7 +160,7 @@ module _ (S : ℕ) (h : Summed S) (t : ℕ) (l : t < 3) where
   low-passed p = go (decLe H S)
     where
       go : Dec (H ≤ S) → missedBy S (H % 4294967296) ≡ 0
-      go (yes q) = told S H q below
+      go (yes q) = bits-reached S H q below
       go (no q) = absurd (omega (arith, levels-are .missed S (startOf S + t) h within (omega arith)))
 
   pub low-missed : u S ≤ startOf S + t → missedBy S (H % 4294967296) ≡ 1
@@ -176,4 +168,4 @@ module _ (S : ℕ) (h : Summed S) (t : ℕ) (l : t < 3) where
     where
       go : Dec (H ≤ S) → missedBy S (H % 4294967296) ≡ 1
       go (yes q) = absurd (omega (arith, levels-are .reached S (startOf S + t) h within q))
-      go (no q) = told-not S H (omega arith) above
+      go (no q) = bits-above S H (omega arith) above

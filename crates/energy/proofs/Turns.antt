@@ -1,9 +1,9 @@
--- The steps of means by stretches: between the thresholds below a stretch's start and the next two, v is told by comparing.
--- Computed tests over the 61 stretches. Assumes nothing.
-use mathlib.Core.Path.{_≡_, refl, sym, _∙_, ap, subst}
+-- The steps of means by stretches: v is told by the thresholds below a stretch's start and the next two, and whether a sum has
+-- reached these the low 32 bits tell. Computed tests over the 61 stretches and the thresholds. Assumes nothing.
+use mathlib.Core.Path.{_≡_, refl, sym, _∙_, ap, ap₂, subst}
 use mathlib.Core.Bool.{Bool}
 use mathlib.Core.List.{List, _∷_, _++_}
-use Prim.Native.Nat.{ℕ, zero, suc, _+_, _*_, _-_, _/_, _≤_, _<_}
+use Prim.Native.Nat.{ℕ, zero, suc, _+_, _*_, _-_, _/_, _%_, _≤_, _<_}
 use native.Mathlib.Decide.{decLt}
 use native.Mathlib.Omega.{arith}
 use lib.Dec.{T, leb, leb→le, lit≤}
@@ -11,8 +11,9 @@ use lib.ListN.{getD, List·getD-append}
 use lib.Seq.{getD-append-add}
 use Rattle.laws.proofs.Table.{every, at}
 use Rattle.energy.specs.Means.{v}
-use Rattle.energy.specs.Tabled.{MeanTabled, Summed₃, turnIn}
+use Rattle.energy.specs.Tabled.{MeanTabled, Summed₃, turnIn, missedBy, missedAt}
 use Rattle.energy.proofs.Lists.{energies, means, ends, turns}
+use Rattle.energy.proofs.Counted.{bits-reached, bits-above}
 use Rattle.energy.proofs.Scaled.{entry-is}
 use Rattle.energy.proofs.Threes.{step-is}
 
@@ -37,6 +38,20 @@ low i k = leb (getD (0 ∷ means) k 0) ((i + 29) * 33554432)
 
 high : ℕ → ℕ → Bool
 high i k = leb ((i + 30) * 33554432) (getD means (k + 2) 0 + 5000000000 * (k / 46))
+
+near : ℕ → ℕ → Bool
+near i n = leb 1000000000 n
+
+far : ℕ → ℕ → Bool
+far i n = leb n 3000000000
+
+checked-near : T (every near 0 steps)
+unfolding near means ends
+checked-near = tt
+
+checked-far : T (every far 0 steps)
+unfolding far means ends
+checked-far = tt
 
 checked-fits : T (every fits 0 turns)
 unfolding fits turns
@@ -83,7 +98,7 @@ module _ (S : ℕ) (h : Summed₃ S) where
   unfolding means ends
   inner k l p = go (decLt k 48)
     where
-      end : (k : ℕ) → k < 2 → getD ends k 0 ≡ 4294967295
+      end : (k : ℕ) → k < 2 → getD ends k 0 ≡ 3000000000
       end zero q = refl
       end (suc zero) q = refl
       end (suc (suc k)) q = absurd (omega arith)
@@ -117,6 +132,44 @@ module _ (S : ℕ) (h : Summed₃ S) where
       (λ m. let t : turn S + 2 ≡ 2 + turn S = omega arith in subst (λ (n : ℕ). S - 1 < getD means n 0) t (before (omega arith))) in
       (omega arith, omega (arith, e))
 
+  -- a threshold and a sum lie within 2 ^ 31 of each other
+  module _ (k : ℕ) (l : k < 50) where
+    abbrev G : ℕ
+    G = getD steps k 0
+
+    above : 1000000000 ≤ G
+    unfolding near means ends
+    above = leb→le 1000000000 G (at near steps checked-near k l)
+
+    below : G ≤ 3000000000
+    unfolding far means ends
+    below = leb→le G 3000000000 (at far steps checked-far k l)
+
+    whole : G ≡ G % 4294967296
+    whole = omega (arith, below)
+
+    reached : G ≤ S - 1 → missedBy (S - 1) G ≡ 0
+    reached p = ap (missedBy (S - 1)) whole ∙ bits-reached (S - 1) G p (omega (arith, above, h .1))
+
+    missed : S - 1 < G → missedBy (S - 1) G ≡ 1
+    missed p = ap (missedBy (S - 1)) whole ∙ bits-above (S - 1) G p (omega (arith, below, h .0))
+
+  counted : v S + turn S ≡ 46 + missedBy (S - 1) (getD steps (turn S) 0) + missedBy (S - 1) (getD steps (1 + turn S) 0)
+  counted = go (decLt (S - 1) (getD steps (turn S) 0)) (decLt (S - 1) (getD steps (1 + turn S) 0))
+    where
+      l : turn S < 50
+      l = omega (arith, turn-fits)
+
+      m : 1 + turn S < 50
+      m = omega (arith, turn-fits)
+
+      go : Dec (S - 1 < getD steps (turn S) 0) → Dec (S - 1 < getD steps (1 + turn S) 0)
+          → v S + turn S ≡ 46 + missedBy (S - 1) (getD steps (turn S) 0) + missedBy (S - 1) (getD steps (1 + turn S) 0)
+      go (yes p) (yes q) = omega (arith, none p, turn-fits, missed (turn S) l p, missed (1 + turn S) m q)
+      go (yes p) (no q) = absurd (omega (arith, none p, two (omega arith)))
+      go (no p) (yes q) = omega (arith, one (omega arith) q, reached (turn S) l (omega arith), missed (1 + turn S) m q)
+      go (no p) (no q) = omega (arith, two (omega arith), reached (turn S) l (omega arith), reached (1 + turn S) m (omega arith))
+
 -- ---- as they are lent
 abbrev pub mean-laid : List ℕ
 mean-laid = energies ++ (steps ++ turns)
@@ -135,18 +188,13 @@ mean-laid-is = record {
   scaled = record { long = lit≤ tt; each = λ d h. List·getD-append energies (steps ++ turns) 0 d h ∙ entry-is d h };
   long = lit≤ tt;
   fits = λ S h. subst (λ (k : ℕ). k ≤ 48) (is S) (turn-fits S h);
-  none = λ S h. subst (λ (k : ℕ). S - 1 < getD mean-laid (100 + k) 0 → 48 - k ≡ v S) (is S)
-      (λ p. none S h (subst (λ (n : ℕ). S - 1 < n) (in-steps (turn S) (omega (arith, turn-fits S h))) p));
-  one = λ S h. subst (λ (k : ℕ). getD mean-laid (100 + k) 0 ≤ S - 1 → S - 1 < getD mean-laid (101 + k) 0 → (k ≤ 47) × (47 - k ≡ v S)) (is S)
-      (λ p q. one S h (subst (λ (n : ℕ). n ≤ S - 1) (in-steps (turn S) (omega (arith, turn-fits S h))) p)
-      (subst (λ (n : ℕ). S - 1 < n) (next S h) q));
-  two = λ S h. subst (λ (k : ℕ). getD mean-laid (101 + k) 0 ≤ S - 1 → (k ≤ 46) × (46 - k ≡ v S)) (is S)
-      (λ p. two S h (subst (λ (n : ℕ). n ≤ S - 1) (next S h) p));
+  counted = λ S h.
+      let e : 101 + turn S ≡ 100 + (1 + turn S) = omega arith in
+      subst (λ (k : ℕ). v S + k ≡ 46 + missedAt (S - 1) mean-laid (100 + k) + missedAt (S - 1) mean-laid (101 + k)) (is S)
+      (counted S h
+      ∙ ap₂ (λ (a b : ℕ). 46 + missedBy (S - 1) a + missedBy (S - 1) b) (sym (in-steps (turn S) (omega (arith, turn-fits S h))))
+      (sym (ap (λ (n : ℕ). getD mean-laid n 0) e ∙ in-steps (1 + turn S) (omega (arith, turn-fits S h)))));
 }
   where
     is : (S : ℕ) → turn S ≡ turnIn mean-laid S
     is S = sym (in-turns (stretch S))
-
-    next : (S : ℕ) → Summed₃ S → getD mean-laid (101 + turn S) 0 ≡ getD steps (1 + turn S) 0
-    next S h = let e : 101 + turn S ≡ 100 + (1 + turn S) = omega arith in
-        ap (λ (n : ℕ). getD mean-laid n 0) e ∙ in-steps (1 + turn S) (omega (arith, turn-fits S h))

@@ -53,7 +53,7 @@ pub record Stepped (many : Bool) (table : List ℕ) : Type 0 where
   pub missed : (S i : ℕ) → Summed S → i < 3 → u S ≤ startIn many table S + i
       → missedAt S table (reach many + startIn many table S + i) ≡ 1
 
--- for means, behind the first hundred numbers of F: G(48) to G(1), two numbers that no sum of three reaches, and how many of
+-- for means, behind the first hundred numbers of F: G(48) to G(1), two numbers that no sum of three goes past, and how many of
 -- these lie below the start of each stretch of 2 ^ 25. None holds more than two
 abbrev pub turnIn : List ℕ → ℕ → ℕ
 turnIn table S = getD table (150 + ((S - 1) / 33554432 - 29)) 0
@@ -61,14 +61,14 @@ turnIn table S = getD table (150 + ((S - 1) / 33554432 - 29)) 0
 abbrev pub Summed₃ : ℕ → Type 0
 Summed₃ S = (1000000000 ≤ S) × (S ≤ 3000000000)
 
+-- the bits tell of the next two thresholds whether a sum less one misses them: v is 46 and as many as it misses, less those
+-- below its stretch
 pub record MeanTabled (table : List ℕ) : Type 0 where
   pub scaled : Scaled false table
   pub long : 211 ≤ length table
   pub fits : (S : ℕ) → Summed₃ S → turnIn table S ≤ 48
-  pub none : (S : ℕ) → Summed₃ S → S - 1 < getD table (100 + turnIn table S) 0 → 48 - turnIn table S ≡ v S
-  pub one : (S : ℕ) → Summed₃ S → getD table (100 + turnIn table S) 0 ≤ S - 1 → S - 1 < getD table (101 + turnIn table S) 0
-      → (turnIn table S ≤ 47) × (47 - turnIn table S ≡ v S)
-  pub two : (S : ℕ) → Summed₃ S → getD table (101 + turnIn table S) 0 ≤ S - 1 → (turnIn table S ≤ 46) × (46 - turnIn table S ≡ v S)
+  pub counted : (S : ℕ) → Summed₃ S
+      → v S + turnIn table S ≡ 46 + missedAt (S - 1) table (100 + turnIn table S) + missedAt (S - 1) table (101 + turnIn table S)
 
 pub record Tabled (many : Bool) (table : List ℕ) : Type 0 where
   pub scaled : Scaled many table

@@ -323,7 +323,7 @@ pub const PARTS: [u32; 317] = [
 ];
 
 // The tables for means, each number by its low 32 bits: F(0) to F(99); G(48) to G(1): the greatest sums that still count a
-// tenth; two numbers that no sum reaches; how many of these sums lie below the start of each stretch of 2 ^ 25.
+// tenth; two numbers that no sum goes past; how many of these sums lie below the start of each stretch of 2 ^ 25.
 pub const MEAN_PARTS: [u32; 211] = [
     1000000000,
     977237220,
@@ -473,8 +473,8 @@ pub const MEAN_PARTS: [u32; 211] = [
     2832182628,
     2898152636,
     2965659283,
-    4294967295,
-    4294967295,
+    3000000000,
+    3000000000,
     0,
     1,
     2,

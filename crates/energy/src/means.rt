@@ -1,27 +1,23 @@
 // The mean of three levels by their energies.
 use crate::energies::energy;
 use crate::lent::Cell;
+use crate::steps::missed;
 use quantity::naturals::lesser;
 ghost use mathlib.Core.Path.{_≡_};
 ghost use Prim.Native.Nat.{_<_};
 ghost use Rattle.energy.specs.Means.{v, mean₃};
 ghost use Rattle.energy.specs.Tabled.{MeanTabled, Summed₃};
 
-// v(S), for a sum of three: no stretch holds more than two thresholds.
+// v(S), for a sum of three: no stretch holds more than two thresholds. Without a branch: which way it goes, nobody could guess.
 fn step_of_sum(tables: &[Cell], s: u64) -> u32
     requires { ⌜ Summed₃ s ⌝ }
     requires { ⌜ MeanTabled (now tables) ⌝ }
     ensures { λ r. ⌜ r ≡ v s ⌝ }
 {
-    let t = (s - 1) as u32;
+    let t = s - 1;
     let passed = tables[150 + (t / 33554432 - 29) as usize];
-    if t < tables[100 + passed as usize] {
-        return 48 - passed;
-    }
-    if t < tables[101 + passed as usize] {
-        return 47 - passed;
-    }
-    46 - passed
+    let next = 100 + passed as usize;
+    46 + missed(t, tables[next]) + missed(t, tables[next + 1]) - passed
 }
 
 // The mean of three values, each counted in tenths from one floor.

@@ -25,7 +25,7 @@ pub fn reached(table: &[u64], s: u64) -> usize
 }
 
 // Whether a threshold lies above a sum, as a number: told by the threshold's low 32 bits, where the two lie within 2^31.
-fn missed(s: u64, low: u32) -> u32
+pub fn missed(s: u64, low: u32) -> u32
     requires { ⌜ s < 17179869184 ⌝ }
     ensures { λ r. ⌜ r ≡ missedBy s low ⌝ }
     ensures { λ r. ⌜ r ≤ 1 ⌝ }

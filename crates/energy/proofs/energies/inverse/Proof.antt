@@ -1,4 +1,4 @@
--- `energy::energies::inverse` meets its contract: each case by computation. Assumes nothing.
+-- `energy::energies::inverse` meets its contract: each case by computation, and past the tenth there is none. Assumes nothing.
 use mathlib.Core.Path.{_≡_, ap}
 use Prim.Native.Nat.{ℕ, _+_, _≤_}
 use native.Mathlib.Omega.{arith}
@@ -48,13 +48,16 @@ returns-9 c = let e : 8 ≡ c .before .args .k = omega arith in ap inverseOf e
 
 returns-10 : tie.Need-returns-10
 unfolding inverseOf
-returns-10 c =
+returns-10 c = let e : 9 ≡ c .before .args .k = omega arith in ap inverseOf e
+
+-- none of the ten, and below ten: no such number
+returns-11 : tie.Need-returns-11
+returns-11 c =
     let n = c .match .rest in
     let k : ℕ = c .before .args .k in
-    let three : 3 ≤ k = past 0 k (omega arith) (n .0 .0 .0 .0 .0 .0 .0 .0 .1) (n .0 .0 .0 .0 .0 .0 .0 .1) (n .0 .0 .0 .0 .0 .0 .1) in
-    let six : 6 ≤ k = past 3 k three (n .0 .0 .0 .0 .0 .1) (n .0 .0 .0 .0 .1) (n .0 .0 .0 .1) in
-    let e : 9 ≡ k = omega (arith, past 6 k six (n .0 .0 .1) (n .0 .1) (n .1), c .before .pre) in
-    ap inverseOf e
+    let three : 3 ≤ k = past 0 k (omega arith) (n .0 .0 .0 .0 .0 .0 .0 .0 .0 .1) (n .0 .0 .0 .0 .0 .0 .0 .0 .1) (n .0 .0 .0 .0 .0 .0 .0 .1) in
+    let six : 6 ≤ k = past 3 k three (n .0 .0 .0 .0 .0 .0 .1) (n .0 .0 .0 .0 .0 .1) (n .0 .0 .0 .0 .1) in
+    absurd (omega (arith, past 6 k six (n .0 .0 .0 .1) (n .0 .0 .1) (n .0 .1), n .1, c .before .pre))
 
 pub inverse-spec : {M : Type 1} → statement M
-inverse-spec = tie.close (tie.spec returns returns-2 returns-3 returns-4 returns-5 returns-6 returns-7 returns-8 returns-9 returns-10)
+inverse-spec = tie.close (tie.spec returns returns-2 returns-3 returns-4 returns-5 returns-6 returns-7 returns-8 returns-9 returns-10 returns-11)
