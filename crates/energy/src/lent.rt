@@ -3,8 +3,8 @@ use crate::constants::MEAN_PARTS;
 use crate::constants::PARTS;
 ghost use mathlib.Core.Bool.{true, false};
 ghost use mathlib.Core.Path.{_≡_};
-ghost use Prim.Native.Nat.{ℕ, _+_, _<_};
-ghost use lib.ListN.{length, getD};
+ghost use Prim.Native.Nat.{ℕ, _+_, _≤_, _<_};
+ghost use lib.ListN.{getD};
 ghost use Rattle.energy.specs.Tabled.{Powers, Tabled, MeanTabled};
 
 pub type Cell = u32;
@@ -23,15 +23,16 @@ pub fn mean_tables() -> [Cell; 211]
     MEAN_PARTS
 }
 
-// The first hundred numbers of F, with room for its rest and for what follows it.
-fn begun(few: [Cell; 317]) -> [Cell; 1118]
-    requires { ⌜ Powers 100 few ⌝ }
-    ensures { λ r. ⌜ Powers 100 r ⌝ }
+// The cells of `few` from one place on, laid from the place `at` on; those before it stay as they are.
+fn laid_at(few: [Cell; 317], from: usize, at: usize, into: [Cell; 1118]) -> [Cell; 1118]
+    requires { ⌜ (from ≤ 317) × (at ≤ from + 801) ⌝ }
+    ensures { λ r. ⌜ ((j : ℕ) → j < at → getD r j 0 ≡ getD into j 0) ⌝ }
+    ensures { λ r. ⌜ ((i : ℕ) → from + i < 317 → getD r (at + i) 0 ≡ getD few (from + i) 0) ⌝ }
 {
-    let mut out = [0; 1118];
+    let mut out = into;
     let mut i = 0;
-    while i < 100 {
-        out[i] = few[i];
+    while from + i < 317 {
+        out[at + i] = few[from + i];
         i += 1;
     }
     out
@@ -51,28 +52,13 @@ fn divided_down(first: [Cell; 1118]) -> [Cell; 1118]
     out
 }
 
-// What follows F in the tables for one set, behind F whole.
-fn followed(whole: [Cell; 1118], few: [Cell; 317]) -> [Cell; 1118]
-    requires { ⌜ Powers 901 whole ⌝ }
-    ensures { λ r. ⌜ Powers 901 r ⌝ }
-    ensures { λ r. ⌜ ((i : ℕ) → i < 217 → getD r (901 + i) 0 ≡ getD few (100 + i) 0) ⌝ }
-    ensures { λ r. ⌜ length r ≡ 1118 ⌝ }
-{
-    let mut out = whole;
-    let mut i = 901;
-    while i < 1118 {
-        out[i] = few[i - 801];
-        i += 1;
-    }
-    out
-}
-
-// The tables for many sets, to be made once and lent for each: the rest of F is divided down from its first hundred numbers.
+// The tables for many sets, to be made once and lent for each: the rest of F is divided down from its first hundred numbers,
+// over what follows these for one set, and that is laid behind F again.
 pub fn tables_of_many() -> [Cell; 1118]
     ensures { λ r. ⌜ Tabled true r ⌝ }
 {
     let few = PARTS;
-    let first = begun(few);
+    let first = laid_at(few, 0, 0, [0; 1118]);
     let whole = divided_down(first);
-    followed(whole, few)
+    laid_at(few, 100, 901, whole)
 }
