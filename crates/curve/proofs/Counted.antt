@@ -6,7 +6,10 @@ use native.Mathlib.Omega.{arith}
 use lib.Dec.{T}
 use lib.IntN.{ℤ, pos, _+ℤ_, _-ℤ_}
 use Rattle.laws.specs.Parts.{P, N}
-use Rattle.laws.proofs.Ints.{plus, minus, apart}
+use mir.Syntax.{w32}
+use mir.Val.{toZ, ofZ}
+use mir.Facts.{toZ-ofZ}
+use Rattle.laws.proofs.Ints.{plus, minus, apart, fits-made}
 use Rattle.quantity.specs.Quantities.{inRange}
 use Rattle.quantity.proofs.Rim.{range-read, sum-value, difference-value}
 use Rattle.curve.specs.Levels.{levelBy, bottom, Countable, Entries}
@@ -20,6 +23,10 @@ pub record Counted (sign : Bool) (x : ℤ) (e : ℕ) : Type 0 where
 
 pub counted : (sign : Bool) (x : ℤ) (e : ℕ) → inRange x ≡ true → Entries sign e → Counted sign x e
 counted sign x e r h = record { low = range-read x r .0; high = range-read x r .1; base = h .low; most = h .high }
+
+-- a value in range, read out of a lent array
+pub read : (x : ℤ) → inRange x ≡ true → toZ w32 (ofZ w32 x) ≡ x
+read x r = toZ-ofZ (fits-made (omega (arith, range-read x r)) (omega (arith, range-read x r)))
 
 -- what is asked where the sign is known, and what is given
 pub up-asked : (sign : Bool) (z : ℤ) (e : ℕ) → sign ≡ true → Countable sign z e → (N z ≤ e) × (P z + e < 2147483648)

@@ -42,7 +42,7 @@ module _ (sign : Bool) (s : BandSet) (entries : List ℕ) (n : ℕ) (most : n �
   level-at-most i h = level-most sign (bandOf s i) (at entries i)
       (counted sign (bandOf s i) (at entries i) (band-in s n acc i h) (ent i (omega arith)))
 
-  pub levels-most : (levels : List ℕ) → Levels sign s entries n levels → (i : ℕ) → i < n → at levels i ≤ 4500
+  pub levels-most : (levels : List ℕ) → Levels sign (bandOf s) entries n levels → (i : ℕ) → i < n → at levels i ≤ 4500
   levels-most levels l i h = omega (arith, l .each i h, level-at-most i h)
 
   pub sum-small : sumTo (levelAt sign s entries) n ≤ n * 4500

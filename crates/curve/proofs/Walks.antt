@@ -42,7 +42,7 @@ pub level-sum-most : (f : ℕ → ℕ) (n : ℕ) → ((i : ℕ) → i < n → f 
 level-sum-most f n h = sum-bound f 10000 n (λ i q. omega (arith, h i q))
 
 -- ---- the least level
-pub least-first : (f : ℕ → ℕ) → f 0 ≡ minTo f (1 - 1)
+pub least-first : (f : ℕ → ℕ) → f 0 ≡ minTo f (0 - 1)
 unfolding minTo
 least-first f = refl
 
@@ -50,17 +50,17 @@ min-more : (f : ℕ → ℕ) (n : ℕ) → minTo f (suc n) ≡ min (minTo f n) (
 unfolding minTo
 min-more f n = refl
 
-pub least-kept : (f : ℕ → ℕ) (i m : ℕ) → 1 ≤ i → m ≡ minTo f (i - 1) → m ≤ f i → m ≡ minTo f (i + 1 - 1)
-least-kept f zero m h e g = absurd (omega arith)
-least-kept f (suc i) m h e g =
+pub least-kept : (f : ℕ → ℕ) (i m : ℕ) → m ≡ minTo f (i - 1) → m ≤ f i → m ≡ minTo f (i + 1 - 1)
+least-kept f zero m e g = e
+least-kept f (suc i) m e g =
     let p : suc i + 1 - 1 ≡ suc i = omega arith in
     let q : suc i - 1 ≡ i = omega arith in
     let k : m ≡ minTo f i = e ∙ ap (minTo f) q in
     sym (ap (minTo f) p ∙ min-more f i ∙ omega arith)
 
-pub least-new : (f : ℕ → ℕ) (i m : ℕ) → 1 ≤ i → m ≡ minTo f (i - 1) → f i < m → f i ≡ minTo f (i + 1 - 1)
-least-new f zero m h e g = absurd (omega arith)
-least-new f (suc i) m h e g =
+pub least-new : (f : ℕ → ℕ) (i m : ℕ) → m ≡ minTo f (i - 1) → f i < m → f i ≡ minTo f (i + 1 - 1)
+least-new f zero m e g = absurd (omega (arith, least-first f))
+least-new f (suc i) m e g =
     let p : suc i + 1 - 1 ≡ suc i = omega arith in
     let q : suc i - 1 ≡ i = omega arith in
     let k : m ≡ minTo f i = e ∙ ap (minTo f) q in

@@ -10,7 +10,7 @@ use lib.IntN.{ℤ, pos, _+ℤ_, _-ℤ_}
 use lib.ListN.{length, getD}
 use Rattle.laws.specs.Parts.{P, N}
 use Rattle.laws.specs.Sums.{sumTo}
-use Rattle.quantity.specs.Quantities.{bandOf}
+use Rattle.quantity.specs.Quantities.{inRange, bandOf}
 use Rattle.quantity.specs.declared.quantities.BandSet.{BandSet}
 use Rattle.energy.specs.Energies.{F}
 
@@ -33,10 +33,18 @@ pub record Entries (sign : Bool) (entry : ℕ) : Type 0 where
   pub low : bottom sign ≤ entry
   pub high : entry ≤ 3000
 
--- the levels of the first n bands of a set
-pub record Levels (sign : Bool) (s : BandSet) (entries : List ℕ) (n : ℕ) (levels : List ℕ) : Type 0 where
+-- value i of a set whose values are lent as plain numbers
+abbrev pub plainAt : List ℤ → ℕ → ℤ
+plainAt values i = getD values i (pos 0)
+
+-- the first n of them are in range
+abbrev pub Ranged : List ℤ → ℕ → Type 0
+Ranged values n = (i : ℕ) → i < n → inRange (plainAt values i) ≡ true
+
+-- the levels of the first n values
+pub record Levels (sign : Bool) (value : ℕ → ℤ) (entries : List ℕ) (n : ℕ) (levels : List ℕ) : Type 0 where
   pub whole : length levels ≡ 16
-  pub each : (i : ℕ) → i < n → getD levels i 0 ≡ levelBy sign (bandOf s i) (getD entries i 0)
+  pub each : (i : ℕ) → i < n → getD levels i 0 ≡ levelBy sign (value i) (getD entries i 0)
 
 abbrev pub at : List ℕ → ℕ → ℕ
 at levels i = getD levels i 0

@@ -11,9 +11,9 @@ ghost use Prim.Native.Nat.{ℕ, _≤_, _<_};
 ghost use lib.ListN.{getD};
 ghost use Rattle.laws.specs.Sums.{sumTo};
 ghost use Rattle.energy.specs.Tabled.{Scaled};
-ghost use Rattle.quantity.specs.Quantities.{inRange};
+ghost use Rattle.quantity.specs.Quantities.{inRange, bandOf};
 ghost use Rattle.curve.specs.Bands.{accepted};
-ghost use Rattle.curve.specs.Levels.{levelBy, Countable, Entries, Levels, at, totalAt, leastOf, energiesOf, Settled};
+ghost use Rattle.curve.specs.Levels.{levelBy, Countable, Entries, plainAt, Ranged, Levels, at, totalAt, leastOf, energiesOf, Settled};
 
 // Where the search ended, and how many shifts it made.
 pub struct Accepted {
@@ -67,17 +67,32 @@ pub fn level_of(value: Tenths, airborne: bool, entry: u32) -> u32
     counted(value.0, airborne, entry)
 }
 
-// The levels of the first `bands` bands.
-pub fn levels(set: BandSet, bands: usize, airborne: bool, entries: [u32; 16]) -> [u32; 16]
+// The values of a set as plain numbers of tenths: as such they can be lent, and nobody copies the set to count its levels.
+pub fn plain(set: BandSet) -> [i32; 16]
+    ensures { λ r. ⌜ ((i : ℕ) → i < 16 → plainAt r i ≡ bandOf set i) ⌝ }
+{
+    let mut out = [0i32; 16];
+    let mut i = 0;
+    while i < 16 {
+        let value = set.values[i];
+        let tenths = value.0;
+        out[i] = tenths;
+        i += 1;
+    }
+    out
+}
+
+// The levels of the first `bands` values, counted from the entries.
+pub fn levels(values: &[i32; 16], bands: usize, airborne: bool, entries: [u32; 16]) -> [u32; 16]
     requires { ⌜ bands ≤ 16 ⌝ }
-    requires { ⌜ accepted set bands ≡ true ⌝ }
+    requires { ⌜ Ranged (now values) bands ⌝ }
     requires { ⌜ ((i : ℕ) → i < 16 → Entries airborne (getD entries i 0)) ⌝ }
-    ensures { λ r. ⌜ Levels airborne set entries bands r ⌝ }
+    ensures { λ r. ⌜ Levels airborne (plainAt (now (values .entry))) entries bands r ⌝ }
 {
     let mut out = [0u32; 16];
     let mut i = 0;
     while i < bands {
-        let value = set.values[i];
+        let value = Tenths(values[i]);
         out[i] = level_of(value, airborne, entries[i]);
         i += 1;
     }
@@ -132,13 +147,13 @@ pub fn settle(levels: &[u32; 16], bands: usize, limit: u32, start: Position) -> 
     Accepted { at: p, shifts }
 }
 
-// The least level.
+// The least level. The walk looks at the first level once more, so that it goes over sixteen and several are looked at at once.
 pub fn least(levels: &[u32; 16], bands: usize) -> u32
     requires { ⌜ (1 ≤ bands) × (bands ≤ 16) ⌝ }
     ensures { λ r. ⌜ r ≡ leastOf (at (now (levels .entry))) bands ⌝ }
 {
     let mut least = levels[0];
-    let mut i = 1;
+    let mut i = 0;
     while i < bands {
         if levels[i] < least {
             least = levels[i];

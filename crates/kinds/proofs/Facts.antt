@@ -76,8 +76,6 @@ sound-of k = record {
   count = count-of k;
   near = origin-near k;
   entries = entries-fit k;
-  first = first-fit k;
-  second = second-fit k;
 }
 
 -- the sum of a kind's entries, what it adds and its limit fit together: E is the sum, m ten for each band

@@ -1,3 +1,4 @@
 -- Laws of the kinds.
 pub mod Numbered
 pub mod Facts
+mod Leveled

@@ -51,8 +51,6 @@ numbersOf k = record {
   origin = record { 0 = ratingAt k };
   airborne = airborne k;
   entries = entriesOf k;
-  first = firstOf k;
-  second = secondOf k;
 }
 
 -- numbers that a kind may have: none of its levels is below 0, and all sums stay small
@@ -60,5 +58,3 @@ pub record Sound (n : Numbers) : Type 0 where
   pub count : Count (n .bands)
   pub near : n .origin .0 < 200
   pub entries : (i : ℕ) → i < 16 → Entries (n .airborne) (at (n .entries) i)
-  pub first : (i : ℕ) → i < 16 → Entries (n .airborne) (at (n .first) i)
-  pub second : (i : ℕ) → i < 16 → Entries (n .airborne) (at (n .second) i)

@@ -35,8 +35,6 @@ pub struct Numbers {
     pub origin: Position,
     pub airborne: bool,
     pub entries: [u32; 16],
-    pub first: [u32; 16],
-    pub second: [u32; 16],
 }
 
 // Airborne thirds.
@@ -138,8 +136,6 @@ impl A3Kind {
             origin: Position(A3Kind::ORIGIN),
             airborne: true,
             entries: A3Kind::reference(),
-            first: A3Kind::spectrum_c(),
-            second: A3Kind::spectrum_ctr(),
         }
     }
 }
@@ -243,8 +239,6 @@ impl A1Kind {
             origin: Position(A1Kind::ORIGIN),
             airborne: true,
             entries: A1Kind::reference(),
-            first: A1Kind::spectrum_c(),
-            second: A1Kind::spectrum_ctr(),
         }
     }
 }
@@ -291,6 +285,13 @@ impl I3Kind {
         ]
     }
 
+    // The spectrum of the impact term: no band weighs more than another. There is no second term.
+    pub fn spectrum() -> [u32; 16]
+        ensures { λ r. ⌜ (r ≡ firstOf Kind.I3) × (r ≡ secondOf Kind.I3) ⌝ }
+    {
+        [1500; 16]
+    }
+
     pub fn numbers() -> Numbers
         ensures { λ r. ⌜ r ≡ numbersOf Kind.I3 ⌝ }
     {
@@ -300,8 +301,6 @@ impl I3Kind {
             origin: Position(I3Kind::ORIGIN),
             airborne: false,
             entries: I3Kind::reference(),
-            first: [1500; 16],
-            second: [1500; 16],
         }
     }
 }
@@ -348,6 +347,13 @@ impl I1Kind {
         ]
     }
 
+    // The spectrum of the impact term: no band weighs more than another. There is no second term.
+    pub fn spectrum() -> [u32; 16]
+        ensures { λ r. ⌜ (r ≡ firstOf Kind.I1) × (r ≡ secondOf Kind.I1) ⌝ }
+    {
+        [1500; 16]
+    }
+
     pub fn numbers() -> Numbers
         ensures { λ r. ⌜ r ≡ numbersOf Kind.I1 ⌝ }
     {
@@ -357,8 +363,6 @@ impl I1Kind {
             origin: Position(I1Kind::ORIGIN),
             airborne: false,
             entries: I1Kind::reference(),
-            first: [1500; 16],
-            second: [1500; 16],
         }
     }
 }

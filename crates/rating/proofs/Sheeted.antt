@@ -1,6 +1,6 @@
 -- The numbers that the code puts on a sheet are the defined ones: each spectrum's levels count x - 10 L, or count down from
 -- 150 dB, so each term is the defined term, and the record is the defined sheet. Assumes nothing.
-use mathlib.Core.Path.{_≡_, refl, sym, _∙_, ap, subst}
+use mathlib.Core.Path.{_≡_, refl, sym, _∙_, ap, ap₂, subst}
 use mathlib.Core.Bool.{Bool, true, false}
 use mathlib.Core.List.{List}
 use Prim.Native.Nat.{ℕ, _+_, _*_, _/_, _≤_, _<_}
@@ -10,19 +10,20 @@ use Rattle.laws.specs.Parts.{P, N}
 use Rattle.laws.proofs.Ints.{minus, apart, times-P, times-N}
 use Rattle.laws.proofs.Lists.{listed-at}
 use Rattle.laws.proofs.Sums.{sum-same}
-use Rattle.quantity.specs.Quantities.{halfEven, bandOf}
+use Rattle.quantity.specs.Quantities.{inRange, halfEven, bandOf}
 use Rattle.quantity.specs.declared.quantities.BandSet.{BandSet}
 use Rattle.quantity.specs.declared.quantities.Decibels.{Decibels}
 use Rattle.curve.specs.Bands.{accepted, limited}
 use Rattle.laws.specs.Tests.{anyTo, bit}
-use Rattle.curve.specs.Levels.{at, levelAt, Levels, Entries}
+use Rattle.energy.specs.Energies.{u, Summed}
+use Rattle.curve.specs.Levels.{at, plainAt, Ranged, levelBy, levelAt, Levels, Entries, Count}
 use Rattle.curve.proofs.Counted.{PartsOf, counted, level-parts}
 use Rattle.laws.proofs.Counted.{Up}
-use Rattle.curve.proofs.Searched.{band-in, count-most, count-some, levels-most, settled-alike}
+use Rattle.curve.proofs.Searched.{band-in, count-most, count-some, levels-most, least-below, energies-bounds, settled-alike}
 use Rattle.kinds.specs.declared.kinds.Kind.{Kind}
 use Rattle.kinds.specs.declared.kinds.Numbers.{Numbers}
-use Rattle.kinds.specs.Kinds.{airborne, bandsOf, C, Ctr}
-use Rattle.kinds.specs.Numbers.{weightBy, firstOf, secondOf, startAdd, numbersOf, Sound, ratingAt}
+use Rattle.kinds.specs.Kinds.{airborne, bandsOf, limitOf, C, Ctr}
+use Rattle.kinds.specs.Numbers.{weightBy, entriesOf, firstOf, secondOf, startAdd, numbersOf, ratingAt}
 use Rattle.kinds.proofs.Facts.{count-of, first-fit, second-fit, sound-of}
 use Rattle.rating.specs.declared.sheets.Sheet.{Sheet}
 use Rattle.rating.specs.declared.sheets.Term.{Term}
@@ -30,7 +31,8 @@ use Rattle.rating.specs.declared.sheets.Term.the-variants.{Given, Absent
 use Rattle.rating.specs.Curve.{ratingOf, shiftsOf}
 use Rattle.rating.specs.Terms.{airborneTerm}
 use Rattle.rating.specs.Sheets.{decibels, firstBy, secondBy, sheetOf}
-use Rattle.rating.specs.Found.{SoughtBy, Sought, ratingBy, termOf}
+use Rattle.rating.specs.Found.{SoughtBy, Sought, WeighedOf, ratingBy, termBy, termOf}
+use Rattle.rating.proofs.Rated.{bands-are}
 use Rattle.rating.proofs.Meaning.{rating-is, shifts-is, start-below}
 use Rattle.rating.proofs.Weighing.{term-alike, airborne-term, impact-term}
 
@@ -115,70 +117,95 @@ module _ (k : Kind) (s : BandSet) (acc : accepted s (bandsOf k) ≡ true) where
     limit = e i;
   }
 
--- ---- the same, from the numbers that the code has fetched
--- what the code knows once it has them
-pub record Fetched (s : BandSet) (m : Numbers) : Type 0 where
-  pub sound : Sound m
-  pub acc : accepted s (m .bands) ≡ true
+-- ---- the same, from what the code has fetched
+module _ (k : Kind) (s : BandSet) (acc : accepted s (bandsOf k) ≡ true) where
+  -- the plain values of the set: a kind's are in range, and levels counted from them are the set's
+  module _ (values : List ℤ) (plain : (i : ℕ) → i < 16 → plainAt values i ≡ bandOf s i) where
+    pub ranged : Ranged values (bandsOf k)
+    ranged i h = ap inRange (plain i (omega (arith, most k s acc))) ∙ band-in s (bandsOf k) acc i h
 
-pub fetched : (k : Kind) (s : BandSet) (m : Numbers) → m ≡ numbersOf k → accepted s (bandsOf k) ≡ true → Fetched s m
-unfolding numbersOf
-fetched k s m e acc = subst (Fetched s) (sym e) (record { sound = sound-of k; acc = acc })
+    pub of-set : {entries levels : List ℕ} → Levels (airborne k) (plainAt values) entries (bandsOf k) levels
+        → Levels (airborne k) (bandOf s) entries (bandsOf k) levels
+    of-set {entries} l = record {
+      whole = l .whole;
+      each = λ i h. l .each i h ∙ ap (λ (x : ℤ). levelBy (airborne k) x (at entries i)) (plain i (omega (arith, most k s acc)));
+    }
 
--- the levels found by fitting entries are small
-pub levels-low : (s : BandSet) (m : Numbers) (entries levels : List ℕ) → Fetched s m → ((i : ℕ) → i < 16 → Entries (m .airborne) (at entries i))
-    → Levels (m .airborne) s entries (m .bands) levels → (i : ℕ) → i < m .bands → at levels i ≤ 4500
-levels-low s m entries levels f fits l =
-    levels-most (m .airborne) s entries (m .bands) (count-most (f .sound .count)) (f .acc) fits levels l
+  module _ (m : Numbers) (e : m ≡ numbersOf k) where
+    pub count : Count (m .bands)
+    unfolding numbersOf
+    count = subst (λ (n : Numbers). Count (n .bands)) (sym e) (count-of k)
 
--- what the search finds by them, it finds of the set; and a term by them is the set's
-pub sought-by : (k : Kind) (s : BandSet) (m : Numbers) (levels : List ℕ) (p shifts : ℕ) → m ≡ numbersOf k
-    → Levels (m .airborne) s (m .entries) (m .bands) levels → SoughtBy k (at levels) (m .bands) (m .limit) p shifts → Sought k s p shifts
-unfolding numbersOf
-sought-by k s m levels p shifts e l w =
-    let g : ℕ → ℕ = levelAt (m .airborne) s (m .entries) in
-    subst (λ (q : Numbers). SoughtBy k (levelAt (q .airborne) s (q .entries)) (q .bands) (q .limit) p shifts) e
-    (settled-alike (at levels) g (m .bands) (m .limit) _ _ p shifts (l .each)
-    (ap (λ (t : ℕ). (t + startAdd k) / (10 * m .bands)) (sum-same (at levels) g (m .bands) (l .each))) w)
+    pub near : m .origin .0 < 200
+    near = subst (λ (n : Numbers). n .origin .0 < 200) (sym e) (sound-of k .near)
 
-pub term-by : (s : BandSet) (m : Numbers) (entries levels : List ℕ) (p : ℕ) (d : ℤ) → Sound m → Levels (m .airborne) s entries (m .bands) levels
-    → d ≡ halfEven (termOf (m .airborne) (m .origin .0) (at levels) (m .bands) p)
-    → d ≡ halfEven (termOf (m .airborne) (m .origin .0) (levelAt (m .airborne) s entries) (m .bands) p)
-term-by s m entries levels p d sound l e =
-    e ∙ ap halfEven (term-alike (m .airborne) (m .origin .0) (at levels) (levelAt (m .airborne) s entries) (m .bands) p (count-some (sound .count)) (l .each))
+    module _ {entries levels : List ℕ} (l : Levels (airborne k) (bandOf s) entries (bandsOf k) levels) where
+      -- the levels found by fitting entries are small, and so is what is weighed of them
+      pub low : ((i : ℕ) → i < 16 → Entries (airborne k) (at entries i)) → (i : ℕ) → i < m .bands → at levels i ≤ 4500
+      low fits i h =
+          levels-most (airborne k) s entries (bandsOf k) (most k s acc) acc fits levels l i (omega (arith, h, bands-are k m e))
 
-pub position-small : (k : Kind) (s : BandSet) (p shifts : ℕ) → accepted s (bandsOf k) ≡ true → Sought k s p shifts → p < 500
-position-small k s p shifts acc w = omega (arith, start-below k s acc, w .distance)
+      pub weighed : ((i : ℕ) → i < 16 → Entries (airborne k) (at entries i)) → {least sum : ℕ} → WeighedOf (at levels) (m .bands) least sum
+          → Summed sum × (least < 5000)
+      weighed fits w =
+          let some : 1 ≤ m .bands = count-some count in
+          let b = energies-bounds (at levels) (m .bands) count in (
+            (omega (arith, w .sum-is, b .0), omega (arith, w .sum-is, b .1)),
+            omega (arith, w .least-is, least-below (at levels) (m .bands) 0 some, low fits 0 some),
+          )
 
--- the rating at the position found
-pub rating-made : (k : Kind) (s : BandSet) → accepted s (bandsOf k) ≡ true → (m : Numbers) → m ≡ numbersOf k → (p shifts : ℕ) (r : ℤ)
-    → Sought k s p shifts → r ≡ ratingBy (m .airborne) (m .origin .0) p → r ≡ ratingOf k (bandOf s)
-unfolding numbersOf
-rating-made k s acc m e p shifts r found w =
-    w ∙ ap (λ (q : Numbers). ratingBy (q .airborne) (q .origin .0) p) e ∙ sym (rating-is k s acc p shifts found)
+      -- a term by what is weighed is the set's
+      pub term-by : (p : ℕ) {least sum : ℕ} {d : ℤ} → WeighedOf (at levels) (m .bands) least sum
+          → d ≡ halfEven (termBy (m .airborne) (m .origin .0) least (u sum) p)
+          → d ≡ halfEven (termOf (m .airborne) (m .origin .0) (levelAt (airborne k) s entries) (m .bands) p)
+      term-by p w d =
+          d
+          ∙ ap₂ (λ (least sum : ℕ). halfEven (termBy (m .airborne) (m .origin .0) least (u sum) p)) (w .least-is) (w .sum-is)
+          ∙ ap halfEven (term-alike (m .airborne) (m .origin .0) (at levels) (levelAt (airborne k) s entries) (m .bands) p (count-some count)
+          (λ i h. l .each i (omega (arith, h, bands-are k m e))))
+
+    -- what the search finds by the levels of the reference curve, it finds of the set
+    pub sought-by : {levels : List ℕ} {p shifts : ℕ} → Levels (airborne k) (bandOf s) (entriesOf k) (bandsOf k) levels
+        → SoughtBy k (at levels) (m .bands) (m .limit) p shifts → Sought k s p shifts
+    unfolding numbersOf
+    sought-by {levels} {p} {shifts} l w =
+        let g : ℕ → ℕ = levelAt (airborne k) s (entriesOf k) in
+        settled-alike (at levels) g (bandsOf k) (limitOf k) _ _ p shifts (l .each)
+        (ap (λ (t : ℕ). (t + startAdd k) / (10 * bandsOf k)) (sum-same (at levels) g (bandsOf k) (l .each)))
+        (subst (λ (n : Numbers). SoughtBy k (at levels) (n .bands) (n .limit) p shifts) e w)
+
+    -- the rating at the position found
+    pub rating-made : {p shifts : ℕ} {r : ℤ} → Sought k s p shifts → r ≡ ratingBy (m .airborne) (m .origin .0) p → r ≡ ratingOf k (bandOf s)
+    unfolding numbersOf
+    rating-made {p} {shifts} found w =
+        w ∙ ap (λ (n : Numbers). ratingBy (n .airborne) (n .origin .0) p) e ∙ sym (rating-is k s acc p shifts found)
+
+  pub position-small : {p shifts : ℕ} → Sought k s p shifts → p < 500
+  position-small w = omega (arith, start-below k s acc, w .distance)
 
 -- the second term: given for airborne, absent for impact
-pub data SecondAt (m : Numbers) (s : BandSet) (p : ℕ) : Term → Type 0 where
-  given : (d : Decibels) → m .airborne ≡ true → d .0 ≡ halfEven (termOf (m .airborne) (m .origin .0) (levelAt (m .airborne) s (m .second)) (m .bands) p)
-      → SecondAt m s p (Given d)
-  absent : m .airborne ≡ false → SecondAt m s p Absent
+pub data SecondAt (k : Kind) (m : Numbers) (s : BandSet) (p : ℕ) : Term → Type 0 where
+  given : (d : Decibels) → m .airborne ≡ true
+      → d .0 ≡ halfEven (termOf (m .airborne) (m .origin .0) (levelAt (airborne k) s (secondOf k)) (m .bands) p)
+      → SecondAt k m s p (Given d)
+  absent : m .airborne ≡ false → SecondAt k m s p Absent
 
-pub record MadeAt (s : BandSet) (p : ℕ) (r : Sheet) (m : Numbers) : Type 0 where
+pub record MadeAt (k : Kind) (s : BandSet) (p : ℕ) (r : Sheet) (m : Numbers) : Type 0 where
   pub rating : r .rating .0 ≡ ratingBy (m .airborne) (m .origin .0) p
-  pub first : r .first .0 ≡ halfEven (termOf (m .airborne) (m .origin .0) (levelAt (m .airborne) s (m .first)) (m .bands) p)
-  pub second : SecondAt m s p (r .second)
+  pub first : r .first .0 ≡ halfEven (termOf (m .airborne) (m .origin .0) (levelAt (airborne k) s (firstOf k)) (m .bands) p)
+  pub second : SecondAt k m s p (r .second)
 
 second-is : (k : Kind) (s : BandSet) → accepted s (bandsOf k) ≡ true → (p : ℕ) → ratingOf k (bandOf s) ≡ ratingBy (airborne k) (ratingAt k) p
-    → (t : Term) → SecondAt (numbersOf k) s p t → t ≡ secondBy (airborne k) k (bandOf s)
+    → (t : Term) → SecondAt k (numbersOf k) s p t → t ≡ secondBy (airborne k) k (bandOf s)
 unfolding numbersOf
 second-is k s acc p r t (given d e h) = ap (λ (z : ℤ). Given (decibels z)) h ∙ second-given k s acc p r e
 second-is k s acc p r t (absent e) = second-absent k s acc p r e
 
 pub sheet-made : (k : Kind) (s : BandSet) → accepted s (bandsOf k) ≡ true → (m : Numbers) → m ≡ numbersOf k → (p : ℕ) (r : Sheet)
-    → Sought k s p (r .shifts) → r .limit ≡ anyTo (bit (s .marks)) (bandsOf k) → MadeAt s p r m → r ≡ sheetOf k s
+    → Sought k s p (r .shifts) → r .limit ≡ anyTo (bit (s .marks)) (bandsOf k) → MadeAt k s p r m → r ≡ sheetOf k s
 unfolding numbersOf
 sheet-made k s acc m e p r found limit w =
-    let v : MadeAt s p r (numbersOf k) = subst (MadeAt s p r) e w in
+    let v : MadeAt k s p r (numbersOf k) = subst (MadeAt k s p r) e w in
     let q : ratingOf k (bandOf s) ≡ ratingBy (airborne k) (ratingAt k) p = rating-is k s acc p (r .shifts) found in
     sheet-is k s acc r (v .rating ∙ sym q) (v .first ∙ first-is k s acc p q) (second-is k s acc p q (r .second) (v .second))
     (sym (shifts-is k s acc p (r .shifts) found)) limit

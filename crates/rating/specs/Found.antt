@@ -18,10 +18,10 @@ SoughtBy k f n limit p shifts = Settled f n limit (startAt f n (startAdd k)) p s
 abbrev pub Sought : Kind → BandSet → ℕ → ℕ → Type 0
 Sought k s p shifts = SoughtBy k (levelAt (airborne k) s (entriesOf k)) (bandsOf k) (limitOf k) p shifts
 
--- the least level of a set and the tenths that all its energies stand above it
-pub record WeighedOf (f : ℕ → ℕ) (n least step : ℕ) : Type 0 where
+-- the least level of a set and the sum of the energies above it
+pub record WeighedOf (f : ℕ → ℕ) (n least sum : ℕ) : Type 0 where
   pub least-is : least ≡ leastOf f n
-  pub step-is : step ≡ u (energiesOf f n (leastOf f n))
+  pub sum-is : sum ≡ energiesOf f n (leastOf f n)
 
 -- the rating at a position, and a term in tenths there
 abbrev pub ratingBy : Bool → ℕ → ℕ → ℤ

@@ -4,7 +4,7 @@ use curve::levels::Accepted;
 use curve::levels::all_in_range;
 use curve::levels::energies;
 use curve::levels::least;
-use curve::levels::levels;
+use curve::levels::plain;
 use curve::levels::settle;
 use curve::levels::sum;
 use energy::Cell;
@@ -12,6 +12,9 @@ use energy::level;
 use energy::tables;
 use kinds::Kind;
 use kinds::bands_of;
+use kinds::by_curve;
+use kinds::by_first;
+use kinds::by_second;
 use kinds::marked;
 use kinds::numbers_of;
 use kinds::start_of;
@@ -24,12 +27,13 @@ use quantity::signed::less;
 ghost use mathlib.Core.Path.{_≡_};
 ghost use mathlib.Core.Bool.{true};
 ghost use Prim.Native.Nat.{ℕ, _≤_, _<_};
+ghost use Rattle.energy.specs.Energies.{u, Summed};
 ghost use Rattle.energy.specs.Tabled.{Tabled};
 ghost use Rattle.quantity.specs.Quantities.{halfEven, bandOf};
 ghost use Rattle.curve.specs.Bands.{accepted};
 ghost use Rattle.curve.specs.Levels.{Count, at};
 ghost use Rattle.kinds.specs.Kinds.{bandsOf};
-ghost use Rattle.rating.specs.Found.{SoughtBy, WeighedOf, ratingBy, termBy, termOf};
+ghost use Rattle.rating.specs.Found.{SoughtBy, WeighedOf, ratingBy, termBy};
 ghost use Rattle.rating.specs.Curve.{ratingOf};
 ghost use Rattle.rating.specs.Sheets.{sheetOf, ratedOf, outcomeOf, singleOf};
 
@@ -61,10 +65,10 @@ pub enum SingleNumber {
     Refused(Refusal),
 }
 
-// The least level and the tenths that all energies together stand above it.
+// The least level, and the sum of the energies above it.
 struct Weighed {
     least: u32,
-    step: u32,
+    sum: u64,
 }
 
 // The accepted position by the levels of a kind's bands, with the shifts from its start.
@@ -77,16 +81,15 @@ fn sought(kind: Kind, levels: &[u32; 16], bands: usize, limit: u32) -> Accepted
     settle(levels, bands, limit, start)
 }
 
-// The least of the levels by one spectrum, and the step of their energies.
+// The least of the levels by one spectrum, and the sum of their energies.
 fn weigh(levels: &[u32; 16], bands: usize, tables: &[Cell], many: bool) -> Weighed
     requires { ⌜ Tabled many (now tables) ⌝ }
     requires { ⌜ Count bands ⌝ }
-    ensures { λ r. ⌜ WeighedOf (at (now (levels .entry))) bands (r .least) (r .step) ⌝ }
+    ensures { λ r. ⌜ WeighedOf (at (now (levels .entry))) bands (r .least) (r .sum) ⌝ }
 {
     let least = least(levels, bands);
     let sum = energies(levels, bands, least, tables, many);
-    let step = level(tables, many, sum);
-    Weighed { least, step }
+    Weighed { least, sum }
 }
 
 // The rating at position p.
@@ -101,24 +104,23 @@ fn rating_at(p: Position, airborne: bool, origin: Position) -> Decibels
     }
 }
 
-// A term at position p, in tenths.
-fn term_at(w: Weighed, p: Position, airborne: bool, origin: Position) -> Tenths
-    requires { ⌜ (p .0 < 500) × (origin .0 < 200) × (w .least < 5000) × (w .step < 500) ⌝ }
-    ensures { λ r. ⌜ r .0 ≡ termBy airborne (origin .0) (w .least) (w .step) (p .0) ⌝ }
+// A term at position p, in tenths, by the least level and the step of the energies above it.
+fn term_at(least: u32, step: u32, p: Position, airborne: bool, origin: Position) -> Tenths
+    requires { ⌜ (p .0 < 500) × (origin .0 < 200) × (least < 5000) × (step < 500) ⌝ }
+    ensures { λ r. ⌜ r .0 ≡ termBy airborne (origin .0) least step (p .0) ⌝ }
 {
     let height = p.tenths();
     let nought = origin.tenths();
     if airborne {
-        Tenths(less(w.least + nought, 200 + w.step + height))
+        Tenths(less(least + nought, 200 + step + height))
     } else {
-        Tenths(less(1350 + w.step + height, w.least + nought))
+        Tenths(less(1350 + step + height, least + nought))
     }
 }
 
-// A term at position p, by the levels of its spectrum, rounded to a whole decibel.
+// A term at position p, by what was weighed, rounded to a whole decibel.
 fn term_of(
-    levels: &[u32; 16],
-    bands: usize,
+    w: Weighed,
     airborne: bool,
     origin: Position,
     p: Position,
@@ -126,13 +128,12 @@ fn term_of(
     many: bool,
 ) -> Decibels
     requires { ⌜ Tabled many (now tables) ⌝ }
-    requires { ⌜ Count bands ⌝ }
-    requires { ⌜ ((i : ℕ) → i < bands → at (now levels) i ≤ 4500) ⌝ }
-    requires { ⌜ (origin .0 < 200) × (p .0 < 500) ⌝ }
-    ensures { λ r. ⌜ r .0 ≡ halfEven (termOf airborne (origin .0) (at (now (levels .entry))) bands (p .0)) ⌝ }
+    requires { ⌜ Summed (w .sum) ⌝ }
+    requires { ⌜ (w .least < 5000) × (origin .0 < 200) × (p .0 < 500) ⌝ }
+    ensures { λ r. ⌜ r .0 ≡ halfEven (termBy airborne (origin .0) (w .least) (u (w .sum)) (p .0)) ⌝ }
 {
-    let w = weigh(levels, bands, tables, many);
-    let tenths = term_at(w, p, airborne, origin);
+    let step = level(tables, many, w.sum);
+    let tenths = term_at(w.least, step, p, airborne, origin);
     tenths.rounded()
 }
 
@@ -144,21 +145,22 @@ pub fn sheet_of(kind: Kind, set: BandSet, tables: &[Cell], many: bool) -> Rated
     ensures { λ r. ⌜ r ≡ Rated.Rating (sheetOf kind set) ⌝ }
 {
     let n = numbers_of(kind);
-    let entries = n.entries;
-    let by_curve = levels(set, n.bands, n.airborne, entries);
-    let spectrum = n.first;
-    let by_first = levels(set, n.bands, n.airborne, spectrum);
+    let values = plain(set);
+    let by_curve = by_curve(kind, &values);
+    let by_first = by_first(kind, &values);
     let limit = marked(kind, set.marks);
     let accepted = sought(kind, &by_curve, n.bands, n.limit);
     let p = accepted.at;
     let shifts = accepted.shifts;
     let origin = n.origin;
     let rating = rating_at(p, n.airborne, origin);
-    let first = term_of(&by_first, n.bands, n.airborne, origin, p, tables, many);
+    let one = weigh(&by_first, n.bands, tables, many);
     if n.airborne {
-        let other = n.second;
-        let by_second = levels(set, n.bands, n.airborne, other);
-        let second = Term::Given(term_of(&by_second, n.bands, n.airborne, origin, p, tables, many));
+        // both are weighed before either step is looked up, so that neither waits for the other
+        let by_second = by_second(kind, &values);
+        let other = weigh(&by_second, n.bands, tables, many);
+        let first = term_of(one, n.airborne, origin, p, tables, many);
+        let second = Term::Given(term_of(other, n.airborne, origin, p, tables, many));
         Rated::Rating(Sheet {
             rating,
             first,
@@ -167,6 +169,7 @@ pub fn sheet_of(kind: Kind, set: BandSet, tables: &[Cell], many: bool) -> Rated
             limit,
         })
     } else {
+        let first = term_of(one, n.airborne, origin, p, tables, many);
         Rated::Rating(Sheet {
             rating,
             first,
@@ -197,8 +200,8 @@ fn rating_of(kind: Kind, set: BandSet) -> Decibels
     ensures { λ r. ⌜ r .0 ≡ ratingOf kind (bandOf set) ⌝ }
 {
     let n = numbers_of(kind);
-    let entries = n.entries;
-    let by_curve = levels(set, n.bands, n.airborne, entries);
+    let values = plain(set);
+    let by_curve = by_curve(kind, &values);
     let accepted = sought(kind, &by_curve, n.bands, n.limit);
     let origin = n.origin;
     rating_at(accepted.at, n.airborne, origin)

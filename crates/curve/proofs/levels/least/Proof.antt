@@ -9,7 +9,7 @@ use Rattle.curve.proofs.levels.least.Statement.{statement}
 use Rattle.curve.proofs.levels.least.Tie as tie
 
 abbrev Inv-loop : tie.InvT-loop
-Inv-loop levels bands least₀ i₀ least i = (1 ≤ i) × (i ≤ bands) × (least ≡ minTo (at levels) (i - 1))
+Inv-loop levels bands least₀ i₀ least i = (i ≤ bands) × (least ≡ minTo (at levels) (i - 1))
 
 abbrev μ-loop : tie.MeasureT-loop
 μ-loop levels bands least₀ i₀ least i = bands - i
@@ -18,7 +18,7 @@ element-copy-out-least : tie.Need-element-copy-out-least Inv-loop μ-loop
 element-copy-out-least c = omega arith
 
 loop-holds : tie.Need-loop-holds Inv-loop μ-loop
-loop-holds c = (omega arith, omega arith, least-first (at (c .before .args .levels .now)))
+loop-holds c = (omega arith, least-first (at (c .before .args .levels .now)))
 
 mul-if1 : tie.Need-mul-if1 Inv-loop μ-loop
 mul-if1 c = omega arith
@@ -43,10 +43,9 @@ loop-again c =
     let b = c .before .before .before in
     let f : ℕ → ℕ = at (b .before .before .args .levels .now) in (
       omega arith,
-      omega arith,
       ⊎-elim
-          (λ w. w .2 ∙ least-new f (b .loop .i) (b .loop .least) (b .loop .inv .0) (b .loop .inv .2) (w .0 .taken))
-          (λ w. w .1 ∙ least-kept f (b .loop .i) (b .loop .least) (b .loop .inv .0) (b .loop .inv .2) (w .0 .left))
+          (λ w. w .2 ∙ least-new f (b .loop .i) (b .loop .least) (b .loop .inv .1) (w .0 .taken))
+          (λ w. w .1 ∙ least-kept f (b .loop .i) (b .loop .least) (b .loop .inv .1) (w .0 .left))
           (c .if1 .came),
     )
 
@@ -55,7 +54,7 @@ unfolding leastOf
 returns c =
     let a = c .before .before .before .args in
     let e : c .before .loop .i ≡ a .bands = omega arith in
-    c .before .loop .inv .2 ∙ ap (λ (n : ℕ). minTo (at (a .levels .now)) (n - 1)) e
+    c .before .loop .inv .1 ∙ ap (λ (n : ℕ). minTo (at (a .levels .now)) (n - 1)) e
 
 pub least-spec : {M : Type 1} → statement M
 least-spec =

@@ -39,20 +39,20 @@ less-requires-2 c κs = search needs
 
 -- the term by the sign that was found is that by the sign given
 signed : (s : tie.Start) {sign : Bool} → s .args .airborne ≡ sign → let a = s .args in
-    termBy sign (a .origin .0) (a .w .least) (a .w .step) (a .p .0) ≡ termBy (a .airborne) (a .origin .0) (a .w .least) (a .w .step) (a .p .0)
-signed s e = ap (λ (b : Bool). termBy b (s .args .origin .0) (s .args .w .least) (s .args .w .step) (s .args .p .0)) (sym e)
+    termBy sign (a .origin .0) (a .least) (a .step) (a .p .0) ≡ termBy (a .airborne) (a .origin .0) (a .least) (a .step) (a .p .0)
+signed s e = ap (λ (b : Bool). termBy b (s .args .origin .0) (s .args .least) (s .args .step) (s .args .p .0)) (sym e)
 
 returns : tie.Need-returns
 returns c =
     back (c .less .result) (c .less .ok)
-    ∙ (rw (c .before .before .before .before .before .tenths .ensures, c .before .before .before .before .tenths2 .ensures) at (c .less .ensures))
-    ∙ signed (c .before .before .before .before .before .before) (c .before .before .before .if1 .taken)
+    ∙ (rw (c .before .before .before .tenths .ensures, c .before .before .tenths2 .ensures) at (c .less .ensures))
+    ∙ signed (c .before .before .before .before) (c .before .if1 .taken)
 
 returns-2 : tie.Need-returns-2
 returns-2 c =
     back (c .less2 .result) (c .less2 .ok)
-    ∙ (rw (c .before .before .before .before .before .tenths .ensures, c .before .before .before .before .tenths2 .ensures) at (c .less2 .ensures))
-    ∙ signed (c .before .before .before .before .before .before) (c .before .before .before .if1 .left)
+    ∙ (rw (c .before .before .before .tenths .ensures, c .before .before .tenths2 .ensures) at (c .less2 .ensures))
+    ∙ signed (c .before .before .before .before) (c .before .if1 .left)
 
 pub term-at-spec : {M : Type 1} → statement M
 term-at-spec =

@@ -1,11 +1,9 @@
--- `rating::sheets::weigh` meets its contract: the least is below every level, and one energy is whole, so the sum lies where
--- the step is found. Assumes nothing.
+-- `rating::sheets::weigh` meets its contract: the least is below every level. Assumes nothing.
 use mathlib.Core.Path.{_≡_, _∙_, ap}
 use Prim.Native.Nat.{ℕ, _≤_, _<_}
 use native.Mathlib.Omega.{arith}
-use Rattle.energy.specs.Energies.{u}
 use Rattle.curve.specs.Levels.{at, leastOf, energiesOf}
-use Rattle.curve.proofs.Searched.{count-most, count-some, least-below, energies-bounds}
+use Rattle.curve.proofs.Searched.{count-most, count-some, least-below}
 use Rattle.rating.proofs.sheets.weigh.Statement.{statement}
 use Rattle.rating.proofs.sheets.weigh.Tie as tie
 
@@ -28,16 +26,8 @@ least-requires c κs = (count-some (c .before .pre .1), count-most (c .before .p
 energies-requires : tie.Need-energies-requires
 energies-requires c κs = (c .before .before .pre .0 .scaled, (count-most (c .before .before .pre .1), lowest c))
 
-level-requires : tie.Need-level-requires
-level-requires c κs =
-    let p = c .before .before .before .pre in
-    (rw (energies-are c) (energies-bounds _ _ (p .1)), p .0 .stepped)
-
 returns : tie.Need-returns
-returns c = record {
-  least-is = c .before .before .least .ensures;
-  step-is = c .level .ensures ∙ ap u (energies-are (c .before));
-}
+returns c = record { least-is = c .before .least .ensures; sum-is = energies-are c }
 
 pub weigh-spec : {M : Type 1} → statement M
-weigh-spec = tie.close (tie.spec least-requires energies-requires level-requires returns)
+weigh-spec = tie.close (tie.spec least-requires energies-requires returns)

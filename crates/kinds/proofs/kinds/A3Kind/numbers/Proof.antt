@@ -8,12 +8,6 @@ use Rattle.kinds.proofs.kinds.A3Kind.numbers.Tie as tie
 reference-requires : tie.Need-reference-requires
 reference-requires c κs = search needs
 
-spectrum-c-requires : tie.Need-spectrum-c-requires
-spectrum-c-requires c κs = search needs
-
-spectrum-ctr-requires : tie.Need-spectrum-ctr-requires
-spectrum-ctr-requires c κs = search needs
-
 returns : tie.Need-returns
 unfolding numbersOf
 returns c = λ i. record {
@@ -21,11 +15,8 @@ returns c = λ i. record {
   limit = 320;
   origin = record { 0 = 24 };
   airborne = true;
-  entries = c .before .before .reference .ensures i;
-  first = c .before .spectrum-c .ensures i;
-  second = c .spectrum-ctr .ensures i;
+  entries = c .reference .ensures i;
 }
 
 pub numbers-spec : {M : Type 1} → statement M
-numbers-spec =
-    tie.close (tie.spec reference-requires spectrum-c-requires spectrum-ctr-requires returns)
+numbers-spec = tie.close (tie.spec reference-requires returns)

@@ -1,9 +1,7 @@
 -- `kinds::kinds::I1Kind::numbers` meets its contract: each list is the definition's. Assumes nothing.
 use borrow.Author.Needs.{needs}
-use Rattle.laws.specs.Lists.{listed}
-use Rattle.kinds.specs.declared.kinds.Kind.the-variants.{I1}
 use mathlib.Core.Bool.{false}
-use Rattle.kinds.specs.Numbers.{numbersOf, firstOf, secondOf}
+use Rattle.kinds.specs.Numbers.{numbersOf}
 use Rattle.kinds.proofs.kinds.I1Kind.numbers.Statement.{statement}
 use Rattle.kinds.proofs.kinds.I1Kind.numbers.Tie as tie
 
@@ -11,15 +9,13 @@ reference-requires : tie.Need-reference-requires
 reference-requires c κs = search needs
 
 returns : tie.Need-returns
-unfolding numbersOf firstOf secondOf listed
+unfolding numbersOf
 returns c = λ i. record {
   bands = 5;
   limit = 100;
   origin = record { 0 = 163 };
   airborne = false;
   entries = c .reference .ensures i;
-  first = firstOf I1;
-  second = secondOf I1;
 }
 
 pub numbers-spec : {M : Type 1} → statement M
