@@ -8,7 +8,7 @@ unfoldable pub minor : ℕ
 minor = 3
 
 unfoldable pub patch : ℕ
-patch = 1
+patch = 2
 
 -- ten thousand times the first part, a hundred times the second, and the third
 unfoldable pub versionNumber : ℕ
