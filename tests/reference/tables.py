@@ -39,7 +39,7 @@ PARTS = (
      [u(max(start, ALONE)) for start in STRETCHES]),
 )
 
-# The tables of a mean, alike: two numbers that no sum of three reaches end the thresholds.
+# The tables of a mean, alike: two numbers that no sum of three goes past end the thresholds.
 STEPS = [G(j) for j in range(48, 0, -1)]
 MEAN_PARTS = (
     PARTS[0],

@@ -8,9 +8,9 @@ use lib.IntN.{ℤ, pos, _+ℤ_, _-ℤ_}
 use Rattle.laws.specs.Parts.{P, N}
 use mir.Syntax.{w32}
 use mir.Val.{toZ, ofZ}
-use mir.Facts.{toZ-ofZ}
-use Rattle.laws.proofs.Ints.{plus, minus, apart, fits-made}
+use Rattle.laws.proofs.Ints.{plus, minus, apart}
 use Rattle.quantity.specs.Quantities.{inRange}
+use Rattle.quantity.proofs.Counts.{near}
 use Rattle.quantity.proofs.Rim.{range-read, sum-value, difference-value}
 use Rattle.curve.specs.Levels.{levelBy, bottom, Countable, Entries}
 
@@ -26,7 +26,7 @@ counted sign x e r h = record { low = range-read x r .0; high = range-read x r .
 
 -- a value in range, read out of a lent array
 pub read : (x : ℤ) → inRange x ≡ true → toZ w32 (ofZ w32 x) ≡ x
-read x r = toZ-ofZ (fits-made (omega (arith, range-read x r)) (omega (arith, range-read x r)))
+read x r = near x (omega (arith, range-read x r)) (omega (arith, range-read x r))
 
 -- what is asked where the sign is known, and what is given
 pub up-asked : (sign : Bool) (z : ℤ) (e : ℕ) → sign ≡ true → Countable sign z e → (N z ≤ e) × (P z + e < 2147483648)

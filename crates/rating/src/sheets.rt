@@ -28,7 +28,7 @@ ghost use mathlib.Core.Path.{_≡_};
 ghost use mathlib.Core.Bool.{true};
 ghost use Prim.Native.Nat.{ℕ, _≤_, _<_};
 ghost use Rattle.energy.specs.Energies.{u, Summed};
-ghost use Rattle.energy.specs.Tabled.{Tabled};
+ghost use Rattle.energy.specs.Tabled.{Scaled, Tabled};
 ghost use Rattle.quantity.specs.Quantities.{halfEven, bandOf};
 ghost use Rattle.curve.specs.Bands.{accepted};
 ghost use Rattle.curve.specs.Levels.{Count, at};
@@ -83,7 +83,7 @@ fn sought(kind: Kind, levels: &[u32; 16], bands: usize, limit: u32) -> Accepted
 
 // The least of the levels by one spectrum, and the sum of their energies.
 fn weigh(levels: &[u32; 16], bands: usize, tables: &[Cell], many: bool) -> Weighed
-    requires { ⌜ Tabled many (now tables) ⌝ }
+    requires { ⌜ Scaled many (now tables) ⌝ }
     requires { ⌜ Count bands ⌝ }
     ensures { λ r. ⌜ WeighedOf (at (now (levels .entry))) bands (r .least) (r .sum) ⌝ }
 {

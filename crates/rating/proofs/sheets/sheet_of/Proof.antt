@@ -9,7 +9,7 @@ use Rattle.quantity.specs.Quantities.{halfEven, bandOf}
 use Rattle.quantity.specs.declared.quantities.BandSet.{BandSet}
 use Rattle.quantity.specs.declared.quantities.Decibels.{Decibels}
 use Rattle.energy.specs.Energies.{u, Summed}
-use Rattle.energy.specs.Tabled.{Tabled}
+use Rattle.energy.specs.Tabled.{Scaled, Tabled}
 use Rattle.curve.specs.Bands.{accepted}
 use Rattle.curve.specs.Levels.{plainAt, Ranged, Count, Levels}
 use Rattle.kinds.specs.declared.kinds.Kind.{Kind}
@@ -65,8 +65,8 @@ module _ (q : tie.After-plain) where
   origin : n .origin .0 < 200
   origin = near k s acc n is
 
-  counted : Tabled (start .args .many) (start .args .tables .now) × Count (n .bands)
-  counted = (start .pre .0, count k s acc n is)
+  counted : Scaled (start .args .many) (start .args .tables .now) × Count (n .bands)
+  counted = (start .pre .0 .scaled, count k s acc n is)
 
 -- ---- where each thing was found
 abbrev plain : tie.After-by-curve → tie.After-plain
@@ -153,7 +153,7 @@ second-small c =
 asked : (c : tie.After-weigh) {S L : Type 0} → S × L → let q = values c in
     Tabled (start q .args .many) (start q .args .tables .now)
     × (S × (L × (n q .origin .0 < 200) × (position c .sought .result .at .0 < 500)))
-asked c w = (counted (values c) .0, (w .0, (w .1, origin (values c), small (position c))))
+asked c w = (start (values c) .pre .0, (w .0, (w .1, origin (values c), small (position c))))
 
 -- whichever of the two is asked
 term-of-requires : tie.Need-term-of-requires

@@ -24,7 +24,7 @@ least-requires : tie.Need-least-requires
 least-requires c κs = (count-some (c .before .pre .1), count-most (c .before .pre .1))
 
 energies-requires : tie.Need-energies-requires
-energies-requires c κs = (c .before .before .pre .0 .scaled, (count-most (c .before .before .pre .1), lowest c))
+energies-requires c κs = (c .before .before .pre .0, (count-most (c .before .before .pre .1), lowest c))
 
 returns : tie.Need-returns
 returns c = record { least-is = c .before .least .ensures; sum-is = energies-are c }
