@@ -105,7 +105,7 @@ fn put_number(z: i32, out: &mut [u8]) -> usize
 }
 
 // The two letters of a kind.
-#[derive(Drop)]
+#[derive(Clone, Copy)]
 struct Letters(u8, u8);
 
 fn letters_of(kind: Kind) -> Letters
@@ -146,7 +146,7 @@ pub fn put_head(kind: Kind, s: &[u8], key: usize, len: usize, out: &mut [u8])
 }
 
 // One field of an answer: a number, a count, a single byte, or none.
-#[derive(Drop)]
+#[derive(Clone, Copy)]
 enum Field {
     Number(i32),
     Count(u32),

@@ -1,6 +1,8 @@
 // Runs the cases of `stdin`, one to a line, and writes an answer line for each: what the library says of inputs made by
 // tests/reference, to be compared with what the reference says. A line is decimal numbers parted by blanks, the first of
 // which names the call (tests/reference/README.md). Nothing here is part of the library; it is proved to be safe and to end.
+#![tactic(auto)]
+
 mod answers;
 
 use libc::STDIN_FILENO;

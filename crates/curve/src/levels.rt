@@ -12,7 +12,7 @@ use quantity::signed::{above, below};
 use quantity::{BandSet, Tenths};
 
 // Where the search ended, and how many shifts it made.
-#[derive(Drop)]
+#[derive(Clone, Copy)]
 pub struct Accepted {
     pub at: Position,
     pub shifts: u32,

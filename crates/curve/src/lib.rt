@@ -3,6 +3,8 @@
 //
 // A level counts a band's value so that both signs are one theory; of the kinds nothing is known here. Each walk is proved
 // equal to its definition in `specs/`, for every count of bands up to sixteen and every value in range.
+#![tactic(auto)]
+
 pub mod levels;
 mod positions;
 

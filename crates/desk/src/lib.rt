@@ -2,6 +2,8 @@
 //
 // No call has a `requires`: each answers every input, or refuses it with the one number that the documents give. Its promise
 // is an equation with a definition of `specs/`, where the definitions stand gathered in the documents' order.
+#![tactic(auto)]
+
 mod covers;
 mod lifts;
 mod lines;

@@ -4,6 +4,8 @@
 // answer keep their contents, and on a refusal the whole array and the register do. A lent array that is too small is refusal
 // 10, tested last. The promise of each says what it returns and what every lent array and register holds afterwards, for all
 // inputs.
+#![tactic(auto)]
+
 mod lifts;
 mod lines;
 mod measured;

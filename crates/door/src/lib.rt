@@ -1,5 +1,7 @@
 // What the C calls of `desk_c` are made of: sides by their numbers, readings and sets out of lent arrays, and the numbers of
 // each answer put into a lent array. Nothing here is called from C.
+#![tactic(auto)]
+
 mod given;
 mod lists;
 mod sides;

@@ -2,6 +2,8 @@
 // correction c and the reverberation steps k. Each function is proved equal to its rule for every argument in range. The
 // tables of ratings and of means are lent as cells, by those who made them, for one set or for many; the others are seen by the
 // one function that reads them.
+#![tactic(auto)]
+
 mod constants;
 mod corrections;
 mod energies;

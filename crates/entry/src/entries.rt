@@ -11,7 +11,7 @@ use quantity::{BandSet, Fen, Tenths, byte};
 // bands, are the entry's; what lies past them never matters, and is entered as zeros. `kind` is the number of a kind. There is
 // no padding between the fields.
 #[repr(C)]
-#[derive(Drop)]
+#[derive(Clone, Copy)]
 pub struct Entry {
     pub customer: u64,
     pub key: [u8; 32],

@@ -1,5 +1,7 @@
 // What is kept of a sheet that was billed (document 02, (x)): what an entry says, when two say the same, the one that a call
 // makes, and whether a call could have made one that was read back. Numbers only, all by value.
+#![tactic(auto)]
+
 mod checks;
 mod entries;
 mod words;

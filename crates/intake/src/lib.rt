@@ -3,6 +3,8 @@
 // An analyser's 32-bit float is taken apart into its bits and rounded exactly, a tie going to the greater. One rounding
 // serves both scales. Each call equals its definition in `specs/` for every float: NaN, infinities, subnormals and negative
 // zero too.
+#![tactic(auto)]
+
 mod rounding;
 mod singles;
 

@@ -7,7 +7,7 @@ ghost use Rattle.intake.specs.Nearest.{nearest_to, held_of, size_of, whole_of};
 use quantity::signed::less;
 
 // A float in units of 1 / scale.
-#[derive(Drop)]
+#[derive(Clone, Copy)]
 pub enum Whole {
     // the nearest whole number of units
     Units(i32),

@@ -8,14 +8,14 @@ use quantity::signed::above;
 use quantity::{Hundredths, Reading, Refusal, Tenths};
 
 // What intake makes of a reading: its tenths and whether it is a limit value, or a refusal.
-#[derive(Drop)]
+#[derive(Clone, Copy)]
 pub enum Taken {
     Value(Tenths, bool),
     Refused(Refusal),
 }
 
 // What intake makes of a reverberation time.
-#[derive(Drop)]
+#[derive(Clone, Copy)]
 pub enum Time {
     Value(Hundredths),
     Refused(Refusal),

@@ -15,7 +15,7 @@ ghost use Rattle.kinds.specs.Numbers.{start_add, entries_of, first_of, second_of
 
 use curve::Position;
 
-#[derive(Drop)]
+#[derive(Clone, Copy)]
 pub enum Kind {
     A3,
     A1,
@@ -24,14 +24,14 @@ pub enum Kind {
 }
 
 // What a number says: a kind, or none.
-#[derive(Drop)]
+#[derive(Clone, Copy)]
 pub enum Named {
     Is(Kind),
     Unknown,
 }
 
 // What the shared rating asks of a kind.
-#[derive(Drop)]
+#[derive(Clone, Copy)]
 pub struct Numbers {
     pub bands: usize,
     pub limit: u32,
@@ -41,7 +41,7 @@ pub struct Numbers {
 }
 
 // Airborne thirds.
-#[derive(Drop)]
+#[derive(Clone, Copy)]
 pub struct A3Kind {}
 
 impl A3Kind {
@@ -100,7 +100,7 @@ impl A3Kind {
 }
 
 // Airborne octaves.
-#[derive(Drop)]
+#[derive(Clone, Copy)]
 pub struct A1Kind {}
 
 impl A1Kind {
@@ -159,7 +159,7 @@ impl A1Kind {
 }
 
 // Impact thirds.
-#[derive(Drop)]
+#[derive(Clone, Copy)]
 pub struct I3Kind {}
 
 impl I3Kind {
@@ -208,7 +208,7 @@ impl I3Kind {
 }
 
 // Impact octaves.
-#[derive(Drop)]
+#[derive(Clone, Copy)]
 pub struct I1Kind {}
 
 impl I1Kind {

@@ -1,4 +1,6 @@
 // The four kinds of rating: airborne and impact, from thirds and from octaves. A kind is a type that owns its numbers.
+#![tactic(auto)]
+
 mod kinds;
 mod levels;
 

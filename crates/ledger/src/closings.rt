@@ -8,7 +8,7 @@ use entry::{Entry, no_entry};
 use register::{Owed, Register, owed_by};
 
 // A register and what was handed out.
-#[derive(Drop)]
+#[derive(Clone, Copy)]
 pub struct Closing {
     pub register: Register,
     pub owed: Owed,

@@ -19,7 +19,7 @@ use Rattle.rating.specs.declared.sheets.Rated.TheVariants.{Rating, Refused as Un
 use Rattle.rating.specs.Curve.{rating_of}
 use Rattle.rating.specs.Sheets.{sheet_of, rated_of, asked}
 use Rattle.rating.proofs.Theorems.{accepted-same, rating-same, Stated, past_by}
-use Rattle.rating.proofs.Rated.{wrong-count}
+use Rattle.rating.proofs.RatedLaws.{wrong-count}
 use Rattle.sets.specs.Masks.{smaller, masks_in_order, filter}
 use Rattle.sets.specs.Highest.{highest}
 use Rattle.lift.specs.declared.lists.Lifted.{Lifted}

@@ -3,6 +3,8 @@
 //
 // The deficits at the target, and what lifting each band takes off them, are worked out once; crate `listing` puts the sets
 // together by these gains. The list is proved to be that of document 01, in which every set is tried through the rating.
+#![tactic(auto)]
+
 mod lists;
 
 pub use lists::{Lifted, lift};

@@ -15,7 +15,7 @@ use rating::{SingleNumber, rate_alone};
 use sets::{gains_at, position_at};
 
 // How many sets are listed, or why none can be.
-#[derive(Drop)]
+#[derive(Clone, Copy)]
 pub enum Lifted {
     Count(usize),
     Refused(Refusal),

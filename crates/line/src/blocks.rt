@@ -8,14 +8,14 @@ use energy::{Cell, tables_of_many};
 use reply::reply_at;
 
 // The next piece of a part: the position after it (its own where there is none), and whether a long line goes on past the part.
-#[derive(Drop)]
+#[derive(Clone, Copy)]
 pub struct Piece {
     pub next: usize,
     pub skipping: bool,
 }
 
 // After one turn: how far the input and the output have come, and whether a long line is being skipped.
-#[derive(Drop)]
+#[derive(Clone, Copy)]
 pub struct Turn {
     pub next: usize,
     pub wrote: usize,
@@ -23,7 +23,7 @@ pub struct Turn {
 }
 
 // How much of the part was used, how many bytes were written, and whether a long line that was answered goes on.
-#[derive(Drop)]
+#[derive(Clone, Copy)]
 pub struct Progress {
     pub used: usize,
     pub wrote: usize,

@@ -10,7 +10,7 @@ use quantity::Refusal;
 use reply::{Reply, no_reply, reply_at};
 
 // How many bytes the answer took, or the one refusal of the call.
-#[derive(Drop)]
+#[derive(Clone, Copy)]
 pub enum Wrote {
     Bytes(usize),
     Refused(Refusal),

@@ -8,7 +8,7 @@ use quantity::naturals::lesser;
 
 // A set of bands as far as it is put together: its bands, the sum and the least of their gains, and the first band that may
 // follow.
-#[derive(Drop)]
+#[derive(Clone, Copy)]
 struct Part {
     mask: u16,
     sum: u32,

@@ -25,7 +25,7 @@ use Rattle.curve.proofs.Searched.{band-in}
 use Rattle.kinds.specs.declared.kinds.Kind.TheVariants.{A1}
 use Rattle.rating.specs.declared.sheets.Rated.TheVariants.{Rating}
 use Rattle.rating.specs.Sheets.{sheet_of, rated_of}
-use Rattle.rating.proofs.Rated.{in_order}
+use Rattle.rating.proofs.RatedLaws.{in_order}
 use Rattle.means.specs.Sets.{placed, mean_at, mark_at, means_of, octaves_of, specimens_of}
 use Rattle.means.proofs.Averages.{mean-range}
 use Rattle.means.proofs.Marks.{marks-bit}

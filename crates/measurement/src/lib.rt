@@ -2,6 +2,8 @@
 //
 // The first refusal in the order given is the one that is answered; a list of another length is refused before any of its
 // readings is looked at. Each call equals its definition in `specs/` for every list.
+#![tactic(auto)]
+
 mod lists;
 
 pub use lists::{Intake, Readings, refused_list, take_all, take_list};

@@ -6,7 +6,7 @@ use intake::{Taken, take_reading};
 use quantity::{BandSet, Outcome, Reading, Refusal, Tenths};
 
 // Many readings: bit i of `marks` says that reading i is a limit value. Where the outcome is a refusal the rest is 0.
-#[derive(Drop)]
+#[derive(Clone, Copy)]
 pub struct Readings {
     pub outcome: Outcome,
     pub values: [Tenths; 48],
@@ -14,7 +14,7 @@ pub struct Readings {
 }
 
 // A band list as a set. Where the outcome is a refusal the set is empty, all its values 0.
-#[derive(Drop)]
+#[derive(Clone, Copy)]
 pub struct Intake {
     pub outcome: Outcome,
     pub set: BandSet,

@@ -9,7 +9,7 @@ use Rattle.measurement.specs.declared.lists.Intake.{Intake}
 use Rattle.measurement.specs.Lists.{all_of, refusal_in}
 use Rattle.kinds.specs.declared.kinds.Kind.TheVariants.{A3}
 use Rattle.rating.specs.Sheets.{sheet_of}
-use Rattle.rating.proofs.Rated.{in_order}
+use Rattle.rating.proofs.RatedLaws.{in_order}
 use Rattle.means.specs.Sets.{placed, specimens_of}
 use Rattle.means.proofs.Meaning.{len_is, specimens-are, specimens-accepted}
 use Rattle.products.specs.declared.grades.Side.{Side}

@@ -13,7 +13,7 @@ use quantity::{BandSet, Decibels, Refusal, Tenths};
 use rating::{Rated, Sheet, rate};
 
 // A cover's improvement rating, its term and its mark (at least), or a refusal.
-#[derive(Drop)]
+#[derive(Clone, Copy)]
 pub enum Cover {
     Improvement(Decibels, Decibels, bool),
     Refused(Refusal),

@@ -10,14 +10,14 @@ use quantity::{Decibels, Outcome, Reading, Refusal};
 use rating::{Rated, Sheet, Term, rate};
 
 // Where the door or window stands.
-#[derive(Drop)]
+#[derive(Clone, Copy)]
 pub enum Side {
     Outside,
     Inside,
 }
 
 // The rating of the means, its two terms, the number that decides, the grade, and the mark.
-#[derive(Drop)]
+#[derive(Clone, Copy)]
 pub struct Grade {
     pub rating: Decibels,
     pub c: Decibels,
@@ -28,7 +28,7 @@ pub struct Grade {
 }
 
 // A grade, or the refusal that is given instead.
-#[derive(Drop)]
+#[derive(Clone, Copy)]
 pub enum Graded {
     Given(Grade),
     Refused(Refusal),

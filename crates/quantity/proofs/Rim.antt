@@ -57,7 +57,7 @@ less-fits n k h g =
 
 -- a signed field or element, read back from its bits
 pub back : (z : ℤ) → mag z < 2147483648 → to_z w32 (of_z w32 z) ≡ z
-back z h = to_z-of_z (record { sfits = h })
+back z h = to_z-of_z {w = w32} (record { sfits = h })
 
 -- a natural below 2 ^ 31, read as signed
 pub as-pos : (n : ℕ) → n < 2147483648 → to_z w32 n ≡ pos n

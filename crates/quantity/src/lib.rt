@@ -2,6 +2,8 @@
 //
 // A measured value is a whole number of tenths of a decibel, a single number (a rating, a target, a rounded term) a whole
 // number of decibels: two types, so that neither is passed for the other. Each conversion is a function with a name.
+#![tactic(auto)]
+
 mod keys;
 pub mod naturals;
 mod quantities;

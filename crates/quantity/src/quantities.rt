@@ -7,24 +7,24 @@ use crate::signed::{above, less};
 
 // A measured or derived value, in tenths of a decibel.
 #[repr(C)]
-#[derive(Drop)]
+#[derive(Clone, Copy)]
 pub struct Tenths(pub i32);
 
 // A single number, in whole decibels: a rating, a target, a rounded term.
-#[derive(Drop)]
+#[derive(Clone, Copy)]
 pub struct Decibels(pub i32);
 
 // A reverberation time, in hundredths of a second.
-#[derive(Drop)]
+#[derive(Clone, Copy)]
 pub struct Hundredths(pub u32);
 
 // A price or a total, in fen.
 #[repr(C)]
-#[derive(Drop)]
+#[derive(Clone, Copy)]
 pub struct Fen(pub u32);
 
 // What the analyser gives for a band: a level, a limit value, or nothing.
-#[derive(Drop)]
+#[derive(Clone, Copy)]
 pub enum Reading {
     Level(f32),
     Limit(f32),
@@ -33,7 +33,7 @@ pub enum Reading {
 
 // The bands of a measurement from the lowest up: `len` values are stated, and bit i of `marks` says that band i is a limit
 // value. What lies past the stated length never matters to an answer.
-#[derive(Drop)]
+#[derive(Clone, Copy)]
 pub struct BandSet {
     pub values: [Tenths; 16],
     pub marks: u16,

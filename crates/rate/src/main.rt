@@ -1,6 +1,8 @@
 // `rate`: request lines on standard input, one answer line for each on standard output.
 //
 // Nothing but moving bytes around the block call: what has been read is answered and written before the next read waits.
+#![tactic(auto)]
+
 ghost use Rattle.std.specs.Prelude.{false, ◌++◌, ◌≡◌, ◌-◌, ◌≤◌, length, take, drop};
 ghost use Rattle.rate.specs.Waits.{Waits, block_at, first_state, Called, Refilled, Advanced, Ran};
 
@@ -9,7 +11,7 @@ use line::answer_block;
 
 // What goes on from turn to turn: the bytes from `start` to `end` of the buffer wait for their answer, `skipping` is what the
 // block call carries on, `last` says that the input has ended, `on` that the run goes on, `failed` that a read or a write did.
-#[derive(Drop)]
+#[derive(Clone, Copy)]
 struct State {
     start: usize,
     end: usize,
@@ -20,7 +22,7 @@ struct State {
 }
 
 // What a block call left, how much it used, and how much it wrote.
-#[derive(Drop)]
+#[derive(Clone, Copy)]
 struct Turn {
     state: State,
     used: usize,

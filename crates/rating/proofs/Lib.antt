@@ -3,7 +3,7 @@ pub mod Bridge
 pub mod Meaning
 pub mod Weighing
 pub mod Sheeted
-pub mod Rated
+pub mod RatedLaws
 pub mod Small
 pub mod Theorems
 pub mod Sums

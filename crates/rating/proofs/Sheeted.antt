@@ -32,7 +32,7 @@ use Rattle.rating.specs.Curve.{rating_of, shifts_of}
 use Rattle.rating.specs.Terms.{airborne_term}
 use Rattle.rating.specs.Sheets.{decibels, first_by, second_by, sheet_of}
 use Rattle.rating.specs.Found.{SoughtBy, Sought, WeighedOf, rating_by, term_by, term_of}
-use Rattle.rating.proofs.Rated.{bands-are}
+use Rattle.rating.proofs.RatedLaws.{bands-are}
 use Rattle.rating.proofs.Meaning.{rating-is, shifts-is, start-below}
 use Rattle.rating.proofs.Weighing.{term-alike, airborne-term, impact-term}
 

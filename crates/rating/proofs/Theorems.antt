@@ -35,7 +35,7 @@ use Rattle.rating.specs.Curve.{deficit, total, within, stricter_by, IsPosition, 
 use Rattle.rating.specs.Terms.{least_to, greatest_to, less, weighted, airborne_term, impact_term}
 use Rattle.rating.specs.Sheets.{first_by, second_by, sheet_of, rated_of, asked}
 use Rattle.rating.proofs.Meaning.{is-position}
-use Rattle.rating.proofs.Rated.{wrong-count}
+use Rattle.rating.proofs.RatedLaws.{wrong-count}
 
 -- ---- "The rating is the greatest whole X whose deficits total at most the limit", "take the least whole Y"
 pub position-best : (k : Kind) (s : BandSet) → accepted s (bands_of k) ≡ true → IsPosition k (band_of s) (position_of k (band_of s))

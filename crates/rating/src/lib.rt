@@ -2,6 +2,8 @@
 //
 // A kind is a type that owns its numbers; one search serves all four. The search counts its own shifts, and the sheet is
 // proved equal to the definitions in `specs/`, for every kind, every length and every value.
+#![tactic(auto)]
+
 mod sheets;
 
 pub use sheets::{Rated, Sheet, SingleNumber, Term, rate, rate_alone, sheet_of};

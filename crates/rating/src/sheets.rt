@@ -18,7 +18,7 @@ use quantity::signed::less;
 use quantity::{BandSet, Decibels, Outcome, Refusal, Tenths};
 
 // A spectrum term, where the kind has it.
-#[derive(Drop)]
+#[derive(Clone, Copy)]
 pub enum Term {
     Given(Decibels),
     Absent,
@@ -26,7 +26,7 @@ pub enum Term {
 
 // The rating, its terms (C and Ctr, or the impact term and none), the count of curve shifts, and whether the set is marked as
 // a limit set: the rating is then at least this for airborne, at most this for impact.
-#[derive(Drop)]
+#[derive(Clone, Copy)]
 pub struct Sheet {
     pub rating: Decibels,
     pub first: Decibels,
@@ -36,21 +36,21 @@ pub struct Sheet {
 }
 
 // A sheet, or the refusal that is given instead.
-#[derive(Drop)]
+#[derive(Clone, Copy)]
 pub enum Rated {
     Rating(Sheet),
     Refused(Refusal),
 }
 
 // The rating of a sheet alone, or the refusal.
-#[derive(Drop)]
+#[derive(Clone, Copy)]
 pub enum SingleNumber {
     Rating(Decibels),
     Refused(Refusal),
 }
 
 // The least level, and the sum of the energies above it.
-#[derive(Drop)]
+#[derive(Clone, Copy)]
 struct Weighed {
     least: u32,
     sum: u64,

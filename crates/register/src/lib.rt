@@ -2,6 +2,8 @@
 //
 // The register holds numbers only, since it lies in a caller's memory and may be read back from a file: nothing in it is
 // trusted before it is tested. All here is by value: `desk` takes the register from where it stands and puts it back.
+#![tactic(auto)]
+
 mod lookup;
 mod registers;
 mod sound;

@@ -6,7 +6,7 @@ use entry::{Entry, no_entry};
 
 // The first `count` entries are in use; what lies past them never matters.
 #[repr(C)]
-#[derive(Drop)]
+#[derive(Clone, Copy)]
 pub struct Register {
     pub entries: [Entry; 512],
     pub count: usize,

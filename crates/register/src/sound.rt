@@ -7,7 +7,7 @@ use crate::registers::Register;
 use entry::{entry_ok, word_of};
 
 // Whether a register is sound, and the words of its entries where it is.
-#[derive(Drop)]
+#[derive(Clone, Copy)]
 pub struct Looked {
     pub sound: bool,
     pub words: [u32; 512],

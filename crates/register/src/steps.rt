@@ -14,14 +14,14 @@ use quantity::{BandSet, Fen, Refusal, is_key_of};
 use rating::{Rated, Sheet, rate};
 
 // The sheet and what is charged now, or the refusal that is given instead.
-#[derive(Drop)]
+#[derive(Clone, Copy)]
 pub enum Billed {
     Charged(Sheet, Fen),
     Refused(Refusal),
 }
 
 // A register and what was answered.
-#[derive(Drop)]
+#[derive(Clone, Copy)]
 pub struct Step {
     pub register: Register,
     pub billed: Billed,

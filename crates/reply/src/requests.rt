@@ -11,7 +11,7 @@ use rating::{Rated, sheet_of};
 use request::{Gathered, Named, bands_at, key_span, kind_at};
 
 // A request: the position after it (0 for none), its kind, where its key stands and how long it is, and what it is answered.
-#[derive(Drop)]
+#[derive(Clone, Copy)]
 pub struct Reply {
     pub next: usize,
     pub kind: Kind,

@@ -10,7 +10,7 @@ use quantity::signed::less;
 use quantity::{Outcome, Refusal, Tenths, byte};
 
 // Tenths without a sign, and the position after them.
-#[derive(Drop)]
+#[derive(Clone, Copy)]
 pub enum Figure {
     Read(u32, usize),
     Nothing,
@@ -18,7 +18,7 @@ pub enum Figure {
 
 // A band: the position after it (0 where none stands there), its value, whether it is a limit value, and the refusal that it
 // gives, if any.
-#[derive(Drop)]
+#[derive(Clone, Copy)]
 pub struct Field {
     pub next: usize,
     pub value: Tenths,
@@ -238,7 +238,7 @@ pub fn band_at(s: &[u8], at: usize) -> Field
 
 // The bands of a line: the position after its line feed (0 where they are broken), how many, the first refusal among them, if
 // any, and, if they are at most 16, their values and marks.
-#[derive(Drop)]
+#[derive(Clone, Copy)]
 pub struct Gathered {
     pub next: usize,
     pub count: usize,

@@ -5,7 +5,7 @@ ghost use Rattle.request.specs.Reading.{kind_at, key_span};
 use kinds::Kind;
 use quantity::{byte, is_key};
 
-#[derive(Drop)]
+#[derive(Clone, Copy)]
 pub enum Named {
     Is(Kind),
     Nothing,

@@ -2,6 +2,8 @@
 //
 // Each is read where it stands, from a position, in one pass. Proved: reading is exact both ways (a line is a request exactly
 // when it is the text of one, and means that one), and of the bands the code gathers what the definitions say.
+#![tactic(auto)]
+
 mod bands;
 mod bytes;
 mod heads;

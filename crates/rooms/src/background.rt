@@ -9,7 +9,7 @@ use quantity::signed::{above, less};
 use quantity::{Refusal, Tenths};
 
 // A corrected level, and whether it is a limit.
-#[derive(Drop)]
+#[derive(Clone, Copy)]
 pub struct Corrected {
     pub level: Tenths,
     pub limit: bool,

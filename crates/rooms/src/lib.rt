@@ -1,6 +1,8 @@
 // Rooms: the two background corrections, and the standardized difference of a raw band.
 //
 // Each call is total, and equals its definition in `specs/` for every input.
+#![tactic(auto)]
+
 mod background;
 mod raw;
 

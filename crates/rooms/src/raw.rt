@@ -12,7 +12,7 @@ use quantity::signed::{above, less};
 use quantity::{Hundredths, Refusal, Tenths};
 
 // What a raw band holds: three levels in decibels and the reverberation time in seconds, as the analyser gives them.
-#[derive(Drop)]
+#[derive(Clone, Copy)]
 pub struct RawBand {
     pub source: f32,
     pub receiving: f32,

@@ -12,7 +12,7 @@ use curve::levels::{counted, level_of};
 use quantity::{BandSet, Decibels, Tenths};
 
 // The gain of each band, and the total of the deficits.
-#[derive(Drop)]
+#[derive(Clone, Copy)]
 pub struct Gains {
     pub each: [u32; 16],
     pub total: u32,

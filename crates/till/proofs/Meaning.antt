@@ -13,7 +13,7 @@ use Rattle.kinds.specs.declared.kinds.Kind.TheVariants.{A3}
 use Rattle.kinds.specs.declared.kinds.Named.{Named}
 use Rattle.kinds.specs.declared.kinds.Named.TheVariants.{Unknown}
 use Rattle.kinds.specs.Kinds.{kind_of}
-use Rattle.rating.proofs.Rated.{wrong-count}
+use Rattle.rating.proofs.RatedLaws.{wrong-count}
 use Rattle.register.specs.declared.registers.Register.{Register}
 use Rattle.entry.specs.Entries.{call_of}
 use Rattle.register.specs.Registers.{sound, Due, billed_by, billed_of, billed_answer}

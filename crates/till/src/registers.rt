@@ -11,7 +11,7 @@ use quantity::{BandSet, Fen};
 use register::{Billed, Owed, Register, enter, owed_by};
 
 // A register as a call leaves it, and the number that the call returns.
-#[derive(Drop)]
+#[derive(Clone, Copy)]
 pub struct Changed {
     pub register: Register,
     pub number: u32,

@@ -4,14 +4,14 @@ ghost use Rattle.std.specs.Prelude.{◌≤◌};
 use crate::numbers::{Case, float, natural, signed};
 
 // Where the length of the list stands in a line, and where the list begins.
-#[derive(Drop)]
+#[derive(Clone, Copy)]
 struct Layout {
     length: usize,
     list: usize,
 }
 
 // The numbers of a line from its list on, as tenths and as pairs of a mark and a float; zeros past the end of the line.
-#[derive(Drop)]
+#[derive(Clone, Copy)]
 pub struct List {
     pub tenths: [i32; 144],
     pub marks: [u8; 144],

@@ -5,7 +5,7 @@ use quantity::signed::less;
 // returns it.
 pub const NO_CASE: u32 = 4294967295;
 
-#[derive(Drop)]
+#[derive(Clone, Copy)]
 pub struct Case {
     pub sizes: [u64; 104],
     pub negative: [bool; 104],

@@ -12,7 +12,7 @@ use quantity::{BandSet, Decibels, Outcome, Reading};
 use rating::Rated;
 
 // What is compared of an answer: 0 and its first number, or the refusal's number and what an unwritten place holds.
-#[derive(Drop)]
+#[derive(Clone, Copy)]
 struct Said {
     number: u32,
     first: i32,

@@ -4,7 +4,7 @@ use mathlib.Core.Path.{sym, ◌∙◌}
 use borrow.Author.Tests.{not-true, not-false}
 use Rattle.curve.proofs.Searched.{count_most}
 use Rattle.kinds.proofs.Facts.{count-of}
-use Rattle.rating.proofs.Rated.{other-count, out_of_range, all_fit}
+use Rattle.rating.proofs.RatedLaws.{other-count, out_of_range, all_fit}
 use Rattle.rating.proofs.sheets.accept.Statement.{statement}
 use Rattle.rating.proofs.sheets.accept.Tie as tie
 

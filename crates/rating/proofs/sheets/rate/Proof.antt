@@ -3,7 +3,7 @@ use mathlib.Core.Path.{◌≡◌, refl, sym, ◌∙◌}
 use borrow.Author.Rules.{rules}
 use Rattle.quantity.specs.declared.refusals.Outcome.TheVariants.{Accepted}
 use Rattle.rating.specs.Sheets.{outcome_of}
-use Rattle.rating.proofs.Rated.{fit-accepted, fit-rated, unfit-rated}
+use Rattle.rating.proofs.RatedLaws.{fit-accepted, fit-rated, unfit-rated}
 use Rattle.rating.proofs.sheets.rate.Statement.{statement}
 use Rattle.rating.proofs.sheets.rate.Tie as tie
 

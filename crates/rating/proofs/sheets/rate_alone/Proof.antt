@@ -3,7 +3,7 @@ use mathlib.Core.Path.{◌≡◌, sym, ◌∙◌}
 use borrow.Author.Rules.{rules}
 use Rattle.quantity.specs.declared.refusals.Outcome.TheVariants.{Accepted}
 use Rattle.rating.specs.Sheets.{outcome_of}
-use Rattle.rating.proofs.Rated.{fit-accepted, fit-alone, unfit-alone}
+use Rattle.rating.proofs.RatedLaws.{fit-accepted, fit-alone, unfit-alone}
 use Rattle.rating.proofs.sheets.rate_alone.Statement.{statement}
 use Rattle.rating.proofs.sheets.rate_alone.Tie as tie
 

@@ -12,7 +12,7 @@ use Rattle.kinds.specs.Kinds.{airborne, bands_of}
 use Rattle.kinds.specs.Numbers.{entries_of, numbers_of}
 use Rattle.kinds.proofs.Facts.{entries_fit}
 use Rattle.rating.specs.Found.{Sought}
-use Rattle.rating.proofs.Rated.{bands-are}
+use Rattle.rating.proofs.RatedLaws.{bands-are}
 use Rattle.rating.proofs.Sheeted.{ranged, of-set, near, low, sought-by, position-small, rating-made}
 use Rattle.rating.proofs.sheets.rating_of.Statement.{statement}
 use Rattle.rating.proofs.sheets.rating_of.Tie as tie

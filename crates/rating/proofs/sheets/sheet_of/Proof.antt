@@ -21,7 +21,7 @@ use Rattle.rating.specs.declared.sheets.Term.{Term}
 use Rattle.rating.specs.Found.{Sought, term_by}
 use Rattle.rating.specs.Sheets.{sheet_of}
 use Rattle.rating.specs.declared.sheets.Rated.TheVariants.{Rating}
-use Rattle.rating.proofs.Rated.{bands-are}
+use Rattle.rating.proofs.RatedLaws.{bands-are}
 use Rattle.rating.proofs.Sheeted.{ranged, of-set, count, near, low, weighed, term-by, sought-by, position-small, SecondAt, given, absent, sheet-made}
 use Rattle.rating.proofs.sheets.sheet_of.Statement.{statement}
 use Rattle.rating.proofs.sheets.sheet_of.Tie as tie

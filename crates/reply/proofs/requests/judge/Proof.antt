@@ -2,7 +2,7 @@
 use borrow.Author.Rules.{rules}
 use mathlib.Core.Path.{◌≡◌, refl, ◌∙◌}
 use Rattle.kinds.specs.Kinds.{bands_of}
-use Rattle.rating.proofs.Rated.{in_order}
+use Rattle.rating.proofs.RatedLaws.{in_order}
 use Rattle.reply.proofs.Replies.{judge-count, judge-refused, judge-sheet}
 use Rattle.reply.proofs.requests.judge.Statement.{statement}
 use Rattle.reply.proofs.requests.judge.Tie as tie
