@@ -122,7 +122,7 @@ fn letters_of(kind: Kind) -> Letters
 // The key, as the line has it.
 fn put_key(s: &[u8], key: usize, len: usize, out: &mut [u8])
     requires len_in_bounds { key + len ≤ length s.now }
-    requires len_in_bounds_2 { len ≤ length out.old }
+    requires out_in_bounds { len ≤ length out.old }
     ensures { out.new ≡ front (take len (drop key s.now)) out.old }
 {
     let mut i = 0;
@@ -135,7 +135,7 @@ fn put_key(s: &[u8], key: usize, len: usize, out: &mut [u8])
 // Kind and key.
 pub fn put_head(kind: Kind, s: &[u8], key: usize, len: usize, out: &mut [u8])
     requires len_in_bounds { key + len ≤ length s.now }
-    requires len_in_bounds_2 { 3 + len ≤ length out.old }
+    requires out_in_bounds { 3 + len ≤ length out.old }
     ensures { out.new ≡ front (kind_text kind ++ (tab ∷ take len (drop key s.now))) out.old }
 {
     let l = letters_of(kind);

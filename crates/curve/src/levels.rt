@@ -57,7 +57,7 @@ pub fn counted(z: i32, airborne: bool, origin: u32) -> u32
 
 // The level of one band, counted from its entry.
 pub fn level_of(value: Tenths, airborne: bool, entry: u32) -> u32
-    requires value_value { in_range value.0 ≡ true }
+    requires ranged { in_range value.0 ≡ true }
     requires entries { Entries airborne entry }
     ensures { result ≡ level_by airborne value.0 entry }
 {
@@ -83,7 +83,7 @@ pub fn plain(set: BandSet) -> [i32; 16]
 pub fn levels(values: &[i32; 16], bands: usize, airborne: bool, entries: [u32; 16]) -> [u32; 16]
     requires bands_bound { bands ≤ 16 }
     requires ranged { Ranged values.now bands }
-    requires by_index { (i : ℕ) → i < 16 → Entries airborne (get_or entries i 0) }
+    requires each_entry { (i : ℕ) → i < 16 → Entries airborne (get_or entries i 0) }
     ensures { Levels airborne (plain_at values.now) entries bands result }
 {
     let mut out = [0u32; 16];
@@ -99,7 +99,7 @@ pub fn levels(values: &[i32; 16], bands: usize, airborne: bool, entries: [u32; 1
 // The sum of the levels.
 pub fn sum(levels: &[u32; 16], bands: usize) -> u32
     requires bands_bound { bands ≤ 16 }
-    requires by_index { (i : ℕ) → i < bands → at levels.now i < 10000 }
+    requires each_small { (i : ℕ) → i < bands → at levels.now i < 10000 }
     ensures { result ≡ sum_to (at levels.now) bands }
 {
     let mut sum = 0;
@@ -164,7 +164,7 @@ pub fn least(levels: &[u32; 16], bands: usize) -> u32
 pub fn energies(levels: &[u32; 16], bands: usize, m: u32, tables: &[Cell], many: bool) -> u64
     requires scaled { Scaled many tables.now }
     requires bands_bound { bands ≤ 16 }
-    requires by_index { (i : ℕ) → i < bands → m ≤ at levels.now i }
+    requires least { (i : ℕ) → i < bands → m ≤ at levels.now i }
     ensures { result ≡ energies_of (at levels.now) bands m }
 {
     let mut sum = 0u64;

@@ -2,4 +2,3 @@
 pub mod Joined
 pub mod Answers
 pub mod Past
-pub mod Whole

@@ -11,7 +11,7 @@ use quantity::{BandSet, Decibels};
 // The least sets of one to three bands that reach the target, from place 0 of `out` on, and their count: 1, 4, then 9, 8, 10.
 // Places after the count keep their contents; on a refusal all do.
 pub fn lift(kind: Kind, set: BandSet, target: Decibels, out: &mut [u16]) -> Lifted
-    ensures result_value { count_answer result ≡ count_answer (answer_of kind set target.0 (length out.old)) }
+    ensures value { count_answer result ≡ count_answer (answer_of kind set target.0 (length out.old)) }
     ensures out_after { out.new ≡ buffer_by (answer_of kind set target.0 (length out.old)) (lift_list kind (band_of set) target.0) out.old }
 {
     lift::lift(kind, set, target, out)

@@ -8,7 +8,7 @@ use line::{Progress, Wrote};
 // The answer to one line, with its line feed, from an offset of the output: refused only with 10, the output then untouched.
 // Bytes before the offset and after the answer keep their contents.
 pub fn answer_line(line: &[u8], out: &mut [u8], at: usize) -> Wrote
-    ensures result_value { wrote_answer result ≡ wrote_answer (wrote_of out.old at (answer_of line.now)) }
+    ensures value { wrote_answer result ≡ wrote_answer (wrote_of out.old at (answer_of line.now)) }
     ensures out_after { out.new ≡ placed out.old at (answer_of line.now) }
 {
     line::answer_line(line, out, at)

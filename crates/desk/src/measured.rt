@@ -33,7 +33,7 @@ pub fn standardized(raw: RawBand) -> Taken
 
 // Five octave means of sixteen thirds: 1, then 4.
 pub fn octaves(set: BandSet) -> Intake
-    ensures bands_of_value { intake_answer result (bands_of Kind.A1) ≡ intake_answer (octaves_of set) (bands_of Kind.A1) }
+    ensures answer { intake_answer result (bands_of Kind.A1) ≡ intake_answer (octaves_of set) (bands_of Kind.A1) }
     ensures value { result ≡ octaves_of set }
 {
     means::octaves(set)
@@ -41,7 +41,7 @@ pub fn octaves(set: BandSet) -> Intake
 
 // Sixteen band means of three specimens: 12, then the readings in order, each 3, 2, 4.
 pub fn specimens(readings: [Reading; 48], len: usize) -> Intake
-    ensures bands_of_value { intake_answer result (bands_of Kind.A3) ≡ intake_answer (specimens_of readings len) (bands_of Kind.A3) }
+    ensures answer { intake_answer result (bands_of Kind.A3) ≡ intake_answer (specimens_of readings len) (bands_of Kind.A3) }
     ensures value { result ≡ specimens_of readings len }
 {
     means::specimens(readings, len)

@@ -28,7 +28,7 @@ pub fn bill(
     set: BandSet,
     price: Fen,
 ) -> Billed
-    ensures result_value { billed_answer result ≡ billed_answer (billed_of register.old (call_of customer key.now kind set price.0)) }
+    ensures value { billed_answer result ≡ billed_answer (billed_of register.old (call_of customer key.now kind set price.0)) }
     ensures register_after { register.new ≡ after_of register.old (call_of customer key.now kind set price.0) }
 {
     let whole = *register;
@@ -49,7 +49,7 @@ pub fn owed(register: &Register, customer: u64) -> Owed
 // new count up to the old one become zeros, those from there on stay. A customer without entries is handed 0, and nothing
 // changes. Refused with 19, the register unchanged.
 pub fn close(register: &mut Register, customer: u64) -> Owed
-    ensures result_value { owed_answer result ≡ owed_answer (owed_of register.old customer) }
+    ensures value { owed_answer result ≡ owed_answer (owed_of register.old customer) }
     ensures register_after { register.new ≡ closed_of register.old customer }
 {
     let whole = *register;

@@ -78,7 +78,7 @@ fn term_flag(term: Term) -> i32
 // The six numbers of a sheet, with zeros after them.
 pub fn sheet_numbers(sheet: Sheet) -> [i32; 17]
     requires { sheet.shifts ≤ 500 }
-    ensures result_value { take 6 result ≡ sheet_numbers sheet }
+    ensures numbers { take 6 result ≡ sheet_numbers sheet }
     ensures result_len { length result ≡ 17 }
 {
     let rating = sheet.rating.0;

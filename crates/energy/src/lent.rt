@@ -23,8 +23,8 @@ pub fn mean_tables() -> [Cell; 211]
 // The cells of `few` from one place on, laid from the place `at` on; those before it stay as they are.
 fn laid_at(few: [Cell; 317], from: usize, at: usize, into: [Cell; 1118]) -> [Cell; 1118]
     requires { (from ≤ 317) × (at ≤ from + 801) }
-    ensures by_index { (j : ℕ) → j < at → get_or result j 0 ≡ get_or into j 0 }
-    ensures by_index_2 { (i : ℕ) → from + i < 317 → get_or result (at + i) 0 ≡ get_or few (from + i) 0 }
+    ensures before { (j : ℕ) → j < at → get_or result j 0 ≡ get_or into j 0 }
+    ensures behind { (i : ℕ) → from + i < 317 → get_or result (at + i) 0 ≡ get_or few (from + i) 0 }
 {
     let mut out = into;
     let mut i = 0;

@@ -10,7 +10,7 @@ use quantity::naturals::lesser;
 
 // v(S), for a sum of three: no stretch holds more than two thresholds. Without a branch: which way it goes, nobody could guess.
 fn step_of_sum(tables: &[Cell], s: u64) -> u32
-    requires fact { Summed₃ s }
+    requires summed { Summed₃ s }
     requires mean_tabled { MeanTabled tables.now }
     ensures { result ≡ v s }
 {

@@ -27,7 +27,7 @@ fn held(negative: bool) -> u64
 // How far from 0 the nearest whole number of units of digits / 2 ^ places is.
 fn size(negative: bool, scale: u64, digits: u64, places: u64) -> u64
     requires scale_bound { (scale ≤ 100) × (digits < 16777216) }
-    requires le_places { (16 ≤ places) × (places ≤ 31) }
+    requires places_bound { (16 ≤ places) × (places ≤ 31) }
     ensures { result ≡ size_of negative (scale * digits) (2 ^ places) }
 {
     (2 * (scale * digits) + (1 << places) - held(negative)) >> (places + 1)
@@ -36,7 +36,7 @@ fn size(negative: bool, scale: u64, digits: u64, places: u64) -> u64
 // The nearest whole number of units of digits / 2 ^ places.
 fn units(negative: bool, scale: u64, digits: u64, places: u64) -> i32
     requires scale_bound { (scale ≤ 100) × (digits < 16777216) }
-    requires le_places { (16 ≤ places) × (places ≤ 31) }
+    requires places_bound { (16 ≤ places) × (places ≤ 31) }
     ensures { result ≡ nearest_to negative (scale * digits) (2 ^ places) }
 {
     let size = size(negative, scale, digits, places) as u32;

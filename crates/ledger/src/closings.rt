@@ -60,8 +60,8 @@ fn without(register: Register, customer: u64) -> Register
 
 // One closing: the customer's total is handed out and the entries go, or 19.
 pub fn close_for(register: Register, customer: u64) -> Closing
-    ensures owed_value { result.owed ≡ owed_of register customer }
-    ensures register_value { result.register ≡ closed_of register customer }
+    ensures owed { result.owed ≡ owed_of register customer }
+    ensures register_after { result.register ≡ closed_of register customer }
 {
     match owed_by(register, customer) {
         Owed::Refused(refusal) => Closing {

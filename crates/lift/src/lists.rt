@@ -60,10 +60,10 @@ fn places(kind: Kind) -> usize
 
 // Lists an accepted set, at a target that is better than its rating.
 fn list(kind: Kind, set: BandSet, target: Decibels, out: &mut [u16]) -> usize
-    requires kind_value { accepted set (bands_of kind) ≡ true }
-    requires target_value { in_targets target.0 ≡ true }
-    requires set_value { better_by (airborne kind) target.0 (rating_of kind (band_of set)) ≡ true }
-    requires kind_in_bounds { places_of kind ≤ length out.old }
+    requires set_accepted { accepted set (bands_of kind) ≡ true }
+    requires target_in_range { in_targets target.0 ≡ true }
+    requires better { better_by (airborne kind) target.0 (rating_of kind (band_of set)) ≡ true }
+    requires room { places_of kind ≤ length out.old }
     ensures value { result ≡ length (lift_list kind (band_of set) target.0) }
     ensures out_after { out.new ≡ front (lift_list kind (band_of set) target.0) out.old }
 {
@@ -85,8 +85,8 @@ fn lift_rated(
     rating: Decibels,
     out: &mut [u16],
 ) -> Lifted
-    requires kind_value { accepted set (bands_of kind) ≡ true }
-    requires rating_value { rating.0 ≡ rating_of kind (band_of set) }
+    requires set_accepted { accepted set (bands_of kind) ≡ true }
+    requires rated { rating.0 ≡ rating_of kind (band_of set) }
     ensures { RatedIs kind set target.0 rating.0 out.old result out.new }
 {
     if !in_targets(target) {

@@ -31,7 +31,7 @@ fn reply_len(s: &[u8], reply: Reply) -> usize
 // The whole answer, at the front of the tail that is lent.
 fn put_reply(s: &[u8], reply: Reply, out: &mut [u8])
     requires keyed { Keyed s.now reply }
-    requires reply_in_bounds { length (reply_text s.now reply) ≤ length out.old }
+    requires room { length (reply_text s.now reply) ≤ length out.old }
     ensures { out.new ≡ front (reply_text s.now reply) out.old }
 {
     if reply.next == 0 {
@@ -65,7 +65,7 @@ pub fn answer_at(s: &[u8], reply: Reply, out: &mut [u8], at: usize) -> Wrote
 
 // The request that a whole line is.
 fn line_reply(line: &[u8]) -> Reply
-    ensures result_value { reply_text line.now result ≡ answer_of line.now }
+    ensures value { reply_text line.now result ≡ answer_of line.now }
     ensures keyed { Keyed line.now result }
 {
     let tables = tables();

@@ -20,8 +20,8 @@ struct Part {
 fn joined(part: Part, band: usize, gain: u32) -> Part
     requires band_bound { (band < 16) × (gain < 10000) }
     requires mask_bound { (part.mask < 2 ^ band) × (part.sum < 200000) }
-    ensures mask_value { (result.mask ≡ part.mask + 2 ^ band) × (result.sum ≡ part.sum + gain) }
-    ensures least_value { (result.least ≡ min part.least gain) × (result.from ≡ band + 1) }
+    ensures mask_and_sum { (result.mask ≡ part.mask + 2 ^ band) × (result.sum ≡ part.sum + gain) }
+    ensures least_and_from { (result.least ≡ min part.least gain) × (result.from ≡ band + 1) }
 {
     Part {
         mask: part.mask + (1 << band),
@@ -36,7 +36,7 @@ fn joined(part: Part, band: usize, gain: u32) -> Part
 fn put_last(part: Part, gains: &[u32; 16], bands: usize, need: u32, out: &mut [u16]) -> usize
     requires part_of { PartOf (at gains.now) part.mask part.sum part.least part.from }
     requires bounded { Bounded gains.now bands need }
-    requires from_in_bounds { length (joined_by (at gains.now) need bands 1 part.mask part.from) ≤ length out.old }
+    requires room { length (joined_by (at gains.now) need bands 1 part.mask part.from) ≤ length out.old }
     ensures value { result ≡ length (joined_by (at gains.now) need bands 1 part.mask part.from) }
     ensures out_after { out.new ≡ front (joined_by (at gains.now) need bands 1 part.mask part.from) out.old }
 {
@@ -63,7 +63,7 @@ fn put_last(part: Part, gains: &[u32; 16], bands: usize, need: u32, out: &mut [u
 fn put_two(part: Part, gains: &[u32; 16], bands: usize, need: u32, out: &mut [u16]) -> usize
     requires part_of { PartOf (at gains.now) part.mask part.sum part.least part.from }
     requires bounded { Bounded gains.now bands need }
-    requires from_in_bounds { length (joined_by (at gains.now) need bands 2 part.mask part.from) ≤ length out.old }
+    requires room { length (joined_by (at gains.now) need bands 2 part.mask part.from) ≤ length out.old }
     ensures value { result ≡ length (joined_by (at gains.now) need bands 2 part.mask part.from) }
     ensures out_after { out.new ≡ front (joined_by (at gains.now) need bands 2 part.mask part.from) out.old }
 {
@@ -81,7 +81,7 @@ fn put_two(part: Part, gains: &[u32; 16], bands: usize, need: u32, out: &mut [u1
 fn put_three(part: Part, gains: &[u32; 16], bands: usize, need: u32, out: &mut [u16]) -> usize
     requires part_of { PartOf (at gains.now) part.mask part.sum part.least part.from }
     requires bounded { Bounded gains.now bands need }
-    requires from_in_bounds { length (joined_by (at gains.now) need bands 3 part.mask part.from) ≤ length out.old }
+    requires room { length (joined_by (at gains.now) need bands 3 part.mask part.from) ≤ length out.old }
     ensures value { result ≡ length (joined_by (at gains.now) need bands 3 part.mask part.from) }
     ensures out_after { out.new ≡ front (joined_by (at gains.now) need bands 3 part.mask part.from) out.old }
 {
@@ -108,7 +108,7 @@ fn put_sets(
     requires more_bound { more < 3 }
     requires part_of { PartOf (at gains.now) part.mask part.sum part.least part.from }
     requires bounded { Bounded gains.now bands need }
-    requires from_in_bounds { length (joined_by (at gains.now) need bands (more + 1) part.mask part.from) ≤ length out.old }
+    requires room { length (joined_by (at gains.now) need bands (more + 1) part.mask part.from) ≤ length out.old }
     ensures value { result ≡ length (joined_by (at gains.now) need bands (more + 1) part.mask part.from) }
     ensures out_after { out.new ≡ front (joined_by (at gains.now) need bands (more + 1) part.mask part.from) out.old }
 {
@@ -124,7 +124,7 @@ fn put_sets(
 // Writes the listed sets to the front of `out`, in order, and counts them.
 pub fn fill(gains: &[u32; 16], bands: usize, need: u32, out: &mut [u16]) -> usize
     requires bounded { Bounded gains.now bands need }
-    requires bands_in_bounds { length (by_gains (at gains.now) need bands) ≤ length out.old }
+    requires room { length (by_gains (at gains.now) need bands) ≤ length out.old }
     ensures value { result ≡ length (by_gains (at gains.now) need bands) }
     ensures out_after { out.new ≡ front (by_gains (at gains.now) need bands) out.old }
 {

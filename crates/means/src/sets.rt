@@ -19,7 +19,7 @@ const READINGS: usize = 3 * A3Kind::BANDS;
 
 // The mean of three band values, each counted from -20.0 dB.
 fn mean(x: Tenths, y: Tenths, z: Tenths, tables: &[Cell]) -> Tenths
-    requires x_value { (in_range x.0 ≡ true) × (in_range y.0 ≡ true) × (in_range z.0 ≡ true) }
+    requires ranged { (in_range x.0 ≡ true) × (in_range y.0 ≡ true) × (in_range z.0 ≡ true) }
     requires mean_tabled { MeanTabled tables.now }
     ensures { result.0 ≡ mean_of₃ x.0 y.0 z.0 }
 {
@@ -67,8 +67,8 @@ fn means(
     tables: &[Cell],
 ) -> BandSet
     requires count_bound { count ≤ 16 }
-    requires by_index { (j : ℕ) → j < count → j * step + 2 * stride < 48 }
-    requires by_index_2 { (i : ℕ) → i < 48 → in_range (placed values i) ≡ true }
+    requires in_bounds { (j : ℕ) → j < count → j * step + 2 * stride < 48 }
+    requires ranged { (i : ℕ) → i < 48 → in_range (placed values i) ≡ true }
     requires mean_tabled { MeanTabled tables.now }
     ensures { result ≡ means_of (placed values) marks count step stride }
 {
@@ -94,8 +94,8 @@ fn means(
 
 // The sixteen values, with zeros after them.
 fn widened(values: [Tenths; 16]) -> [Tenths; 48]
-    ensures by_index { (i : ℕ) → get_or result i nought ≡ get_or values i nought }
-    ensures by_index_2 { (i : ℕ) → 16 ≤ i → get_or result i nought ≡ nought }
+    ensures kept { (i : ℕ) → get_or result i nought ≡ get_or values i nought }
+    ensures rest { (i : ℕ) → 16 ≤ i → get_or result i nought ≡ nought }
 {
     let mut out = [Tenths(0); 48];
     let mut i = 0;

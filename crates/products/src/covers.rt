@@ -27,7 +27,7 @@ const FLOOR: [u32; 16] = [
 // The level of band i of the reference floor under the cover.
 fn derived(i: usize, improvement: Tenths) -> Tenths
     requires i_bound { i < 16 }
-    requires improvement_value { in_range improvement.0 ≡ true }
+    requires ranged { in_range improvement.0 ≡ true }
     ensures { result.0 ≡ floor_at i -ℤ improvement.0 }
 {
     Tenths(less(FLOOR[i] + 200, above(improvement.0, 200)))

@@ -111,12 +111,12 @@ pub all-answered : {room : ℕ} {buf input out : List ℕ} → 64 ≤ room → 5
 all-answered wide size calls = run_is (follows calls wide size refl (λ e. absurd (never e refl)))
 
 -- ---- the same of what `run` promises: what its steps read makes up the input, and what they hand out the output
-abbrev pub Moved : {room n : ℕ} {buf after : List ℕ} {s : State} → Steps room buf n s after → List ℕ → List ℕ → List ℕ → Type 0
+abbrev pub Moved : {room : ℕ} {buf : List ℕ} {n : ℕ} {after : List ℕ} {s : State} → Steps room buf n s after → List ℕ → List ℕ → List ℕ → Type 0
 Moved none input future out = (input ≡ future) × (out ≡ [])
 Moved {room = room} (more {s = s} {before = before} steps on a) input future out =
     (coming : List ℕ) × (handed : List ℕ) × Moved steps input coming handed × Reads a coming future × (out ≡ handed ++ (block_at s before room).text)
 
-steps-call : {room n : ℕ} {buf after : List ℕ} {s : State} (steps : Steps room buf n s after) (input future out rest : List ℕ)
+steps-call : {room : ℕ} {buf : List ℕ} {n : ℕ} {after : List ℕ} {s : State} (steps : Steps room buf n s after) (input future out rest : List ℕ)
     → Moved steps input future out → Calls room s after future rest → Calls room first_state buf input (out ++ rest)
 steps-call {room = room} {buf = buf} none input future out rest m calls =
     subst (λ (o : List ℕ). Calls room first_state buf input (o ++ rest)) (sym m.1)

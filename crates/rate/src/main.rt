@@ -45,7 +45,7 @@ fn started() -> State
 // A run that is over: at the end of its input, or because a read or a write failed.
 fn stopped(failed: bool) -> State
     ensures waits { Waits result 0 }
-    ensures on_value { (result.on ≡ false) × (result.failed ≡ failed) }
+    ensures over { (result.on ≡ false) × (result.failed ≡ failed) }
 {
     State {
         start: 0,
@@ -123,7 +123,7 @@ fn answer(buf: &[u8], out: &mut [u8], state: State) -> Turn
 // Hands the answer of what waits to the output. `buf` and `state` are lent only so that the contract can say whose answer it is.
 fn hand_out(buf: &[u8], state: State, out: &[u8], wrote: usize) -> bool
     requires wrote_in_bounds { wrote ≤ length out.now }
-    requires out_value { take wrote out.now ≡ (block_at state buf.now (length out.now)).text }
+    requires answered { take wrote out.now ≡ (block_at state buf.now (length out.now)).text }
 {
     io::write_all(STDOUT_FILENO, &out[..wrote])
 }

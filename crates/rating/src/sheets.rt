@@ -58,8 +58,8 @@ struct Weighed {
 
 // The accepted position by the levels of a kind's bands, with the shifts from its start.
 fn sought(kind: Kind, levels: &[u32; 16], bands: usize, limit: u32) -> Accepted
-    requires bands_value { bands ≡ bands_of kind }
-    requires by_index { (i : ℕ) → i < bands → at levels.now i ≤ 4500 }
+    requires bands_of_kind { bands ≡ bands_of kind }
+    requires each_small { (i : ℕ) → i < bands → at levels.now i ≤ 4500 }
     ensures { SoughtBy kind (at levels.now) bands limit result.at.0 result.shifts }
 {
     let start = start_of(kind, sum(levels, bands));
@@ -126,7 +126,7 @@ fn term_of(
 // that it is: a sheet by itself would be copied into one.
 pub fn sheet_of(kind: Kind, set: BandSet, tables: &[Cell], many: bool) -> Rated
     requires tabled { Tabled many tables.now }
-    requires kind_value { accepted set (bands_of kind) ≡ true }
+    requires set_accepted { accepted set (bands_of kind) ≡ true }
     ensures { result ≡ Rated.Rating (sheet_of kind set) }
 {
     let n = numbers_of(kind);

@@ -50,11 +50,11 @@ fn with_entry(register: Register, e: Entry) -> Register
 
 // What becomes of a rated call: the same again, 17, a new key, or 18.
 fn place(register: Register, words: [u32; 512], e: Entry, kind: Kind, sheet: Sheet) -> Step
-    requires register_value { sound register ≡ true }
+    requires is_sound { sound register ≡ true }
     requires words_of { WordsOf register register.count words }
     requires length_bound { (e.length ≤ 32) × (e.kind ≡ kind_number kind) }
-    ensures billed_value { result.billed ≡ billed_by (place_due register e sheet) e.price.0 }
-    ensures register_value_2 { result.register ≡ after_by (place_due register e sheet) register e }
+    ensures billed { result.billed ≡ billed_by (place_due register e sheet) e.price.0 }
+    ensures register_after { result.register ≡ after_by (place_due register e sheet) register e }
 {
     let count = register.count;
     let at = place_of(register, &words, count, e, word_of(e));
@@ -87,8 +87,8 @@ pub fn enter(
     set: BandSet,
     price: Fen,
 ) -> Step
-    ensures billed_value { result.billed ≡ billed_of register (call_of customer key.now kind set price.0) }
-    ensures register_value { result.register ≡ after_of register (call_of customer key.now kind set price.0) }
+    ensures billed { result.billed ≡ billed_of register (call_of customer key.now kind set price.0) }
+    ensures register_after { result.register ≡ after_of register (call_of customer key.now kind set price.0) }
 {
     let looked = look(register);
     if !looked.sound {

@@ -17,8 +17,8 @@ pub struct Corrected {
 
 // The field rule on values in range. Both levels are counted from -20.0 dB.
 pub fn in_field(total: Tenths, background: Tenths) -> Corrected
-    requires total_value { in_range total.0 ≡ true }
-    requires background_value { in_range background.0 ≡ true }
+    requires total_ranged { in_range total.0 ≡ true }
+    requires background_ranged { in_range background.0 ≡ true }
     ensures { (result.level.0 ≡ field_level total.0 background.0) × (result.limit ≡ field_mark total.0 background.0) }
 {
     let t = above(total.0, 200);
@@ -58,8 +58,8 @@ pub fn correct_field(total: Tenths, background: Tenths) -> Taken
 
 // The laboratory rule on values in range.
 fn in_laboratory(total: Tenths, background: Tenths) -> Taken
-    requires total_value { in_range total.0 ≡ true }
-    requires background_value { in_range background.0 ≡ true }
+    requires total_ranged { in_range total.0 ≡ true }
+    requires background_ranged { in_range background.0 ≡ true }
     ensures { result ≡ laboratory_level total.0 background.0 }
 {
     let t = above(total.0, 200);

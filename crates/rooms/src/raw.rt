@@ -22,8 +22,8 @@ pub struct RawBand {
 
 // The difference of levels that are in range, with its mark, or 6.
 fn differed(source: Tenths, receiving: Tenths, background: Tenths, time: Hundredths) -> Taken
-    requires source_value { (in_range source.0 ≡ true) × (in_range receiving.0 ≡ true) × (in_range background.0 ≡ true) }
-    requires le_time { (10 ≤ time.0) × (time.0 ≤ 2000) }
+    requires levels_ranged { (in_range source.0 ≡ true) × (in_range receiving.0 ≡ true) × (in_range background.0 ≡ true) }
+    requires time_bound { (10 ≤ time.0) × (time.0 ≤ 2000) }
     ensures { result ≡ derived (difference source.0 receiving.0 background.0 (k time.0)) (field_mark receiving.0 background.0) }
 {
     let corrected = in_field(receiving, background);

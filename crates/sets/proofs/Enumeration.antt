@@ -3,7 +3,7 @@
 use mathlib.Core.Path.{◌≡◌, refl, sym, ◌∙◌, ap, subst}
 use mathlib.Core.Bool.{Bool, true, false, cond, ◌&&◌}
 use mathlib.Core.List.Memᴰ
-use mathlib.Core.List.{List, ◌∷◌, ◌++◌, map, Memᴰ}
+use mathlib.Core.List.{List, [], ◌∷◌, ◌++◌, map, Memᴰ}
 use Prim.Native.Nat.{ℕ, zero, suc, ◌+◌, ◌*◌, ◌/◌, ◌%◌, ◌^◌, ◌≤◌, ◌<◌}
 use native.Mathlib.Nat.{add-zero, not-suc-le-zero, pow-suc, div-add-mod', div-div-eq-div-mul, div-eq_of_lt}
 use native.Mathlib.Omega.{arith}
@@ -42,6 +42,7 @@ fewer I1 = refl
 
 -- ---- every set is there
 map-member : (f : ℕ → ℕ) (a : ℕ) (l : List ℕ) → Memᴰ a l → Memᴰ (f a) (map f l)
+map-member f a [] h = elim h [ ]
 map-member f a (b ∷ l) (Memᴰ.head e) = Memᴰ.head (ap f e)
 map-member f a (b ∷ l) (Memᴰ.tail h) = Memᴰ.tail (map-member f a l h)
 

@@ -36,6 +36,7 @@ filter-read ok (a ∷ l) m h = go (λ q. filter-read ok l m q) (ok a) refl h
 
 pub filter-made : (ok : ℕ → Bool) (l : List ℕ) (m : ℕ) → Memᴰ m l → T (ok m) → Memᴰ m (filter ok l)
 unfolding filter
+filter-made ok [] m h t = elim h [ ]
 filter-made ok (a ∷ l) m (Memᴰ.head s) t =
     rw (is_true (ok a) (subst (λ (n : ℕ). T (ok n)) s t)) (Memᴰ.head s)
 filter-made ok (a ∷ l) m (Memᴰ.tail h) t = go (ok a) (filter-made ok l m h t)
@@ -51,6 +52,7 @@ all_in ok (a ∷ l) = ok a && all_in ok l
 
 pub each_of : (ok : ℕ → Bool) (l : List ℕ) (m : ℕ) → T (all_in ok l) → Memᴰ m l → T (ok m)
 unfolding all_in
+each_of ok [] m t h = elim h [ ]
 each_of ok (a ∷ l) m t (Memᴰ.head s) = subst (λ (n : ℕ). T (ok n)) (sym s) (and_left (ok a) (all_in ok l) t)
 each_of ok (a ∷ l) m t (Memᴰ.tail h) = each_of ok l m (and_right (ok a) (all_in ok l) t) h
 

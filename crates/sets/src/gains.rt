@@ -38,7 +38,7 @@ fn short_of(height: u32, level: u32) -> u32
 
 // The deficit of one band at ten times a position.
 fn lacking(value: Tenths, airborne: bool, entry: u32, height: u32) -> u32
-    requires value_value { in_range value.0 ≡ true }
+    requires ranged { in_range value.0 ≡ true }
     requires entries { Entries airborne entry }
     ensures { result ≡ height - level_by airborne value.0 entry }
 {
@@ -64,8 +64,8 @@ pub fn gains_at(
     p: Position,
 ) -> Gains
     requires bands_bound { bands ≤ 16 }
-    requires bands_value { accepted set bands ≡ true }
-    requires by_index { (i : ℕ) → i < 16 → Entries airborne (at entries i) }
+    requires set_accepted { accepted set bands ≡ true }
+    requires each_entry { (i : ℕ) → i < 16 → Entries airborne (at entries i) }
     requires p_bound { p.0 < 500 }
     ensures { Gained airborne set entries bands p.0 result.each result.total }
 {

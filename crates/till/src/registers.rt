@@ -87,8 +87,8 @@ pub fn bill_given(
     price: u32,
     out: &mut [i32],
 ) -> Changed
-    ensures number_value { result.number ≡ returned (bill_answer register (call_given customer key.now kind values.now marks price)) (length out.old) }
-    ensures register_value { result.register ≡ bill_left register (call_given customer key.now kind values.now marks price) (length out.old) }
+    ensures number { result.number ≡ returned (bill_answer register (call_given customer key.now kind values.now marks price)) (length out.old) }
+    ensures register_after { result.register ≡ bill_left register (call_given customer key.now kind values.now marks price) (length out.old) }
     ensures out_after { out.new ≡ held (bill_answer register (call_given customer key.now kind values.now marks price)) out.old }
 {
     let named = kind_of(kind);
@@ -118,8 +118,8 @@ pub fn owed_given(register: Register, customer: u64, out: &mut [i32]) -> u32
 
 // One call of `close`. Where the lent array has no room for the total, the register is not changed.
 pub fn close_given(register: Register, customer: u64, out: &mut [i32]) -> Changed
-    ensures number_value { result.number ≡ returned (owed_given register customer) (length out.old) }
-    ensures register_value { result.register ≡ close_left register customer (length out.old) }
+    ensures number { result.number ≡ returned (owed_given register customer) (length out.old) }
+    ensures register_after { result.register ≡ close_left register customer (length out.old) }
     ensures out_after { out.new ≡ held (owed_given register customer) out.old }
 {
     let step = close_for(register, customer);
