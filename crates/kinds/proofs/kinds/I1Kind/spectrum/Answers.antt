@@ -2,12 +2,8 @@
 use mathlib.Core.Path.{refl}
 use Rattle.laws.specs.Lists.{listed}
 use Rattle.kinds.specs.Numbers.{first_of, second_of}
-use Rattle.kinds.proofs.kinds.I1Kind.spectrum.Statement.{statement}
-use Rattle.kinds.proofs.kinds.I1Kind.spectrum.Tie as tie
+use Rattle.kinds.proofs.kinds.I1Kind.spectrum.Goals as goal
 
-returns : tie.Need-returns
+pub returns : goal.returns
 unfolding first_of second_of listed
 returns c = (refl, refl)
-
-pub spectrum-spec : {M : Type 1} → statement M
-spectrum-spec = tie.close (tie.spec returns)

@@ -3,12 +3,8 @@ use mathlib.Core.Path.{refl}
 use Rattle.laws.specs.Lists.{listed}
 use Rattle.kinds.specs.Kinds.{C, spectra_c}
 use Rattle.kinds.specs.Numbers.{first_of}
-use Rattle.kinds.proofs.kinds.A3Kind.spectrum_c.Statement.{statement}
-use Rattle.kinds.proofs.kinds.A3Kind.spectrum_c.Tie as tie
+use Rattle.kinds.proofs.kinds.A3Kind.spectrum_c.Goals as goal
 
-returns : tie.Need-returns
+pub returns : goal.returns
 unfolding first_of listed C spectra_c
 returns c = refl
-
-pub spectrum-c-spec : {M : Type 1} → statement M
-spectrum-c-spec = tie.close (tie.spec returns)

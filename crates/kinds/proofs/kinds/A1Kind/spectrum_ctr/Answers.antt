@@ -3,12 +3,8 @@ use mathlib.Core.Path.{refl}
 use Rattle.laws.specs.Lists.{listed}
 use Rattle.kinds.specs.Kinds.{Ctr, spectra_ctr}
 use Rattle.kinds.specs.Numbers.{second_of}
-use Rattle.kinds.proofs.kinds.A1Kind.spectrum_ctr.Statement.{statement}
-use Rattle.kinds.proofs.kinds.A1Kind.spectrum_ctr.Tie as tie
+use Rattle.kinds.proofs.kinds.A1Kind.spectrum_ctr.Goals as goal
 
-returns : tie.Need-returns
+pub returns : goal.returns
 unfolding second_of listed Ctr spectra_ctr
 returns c = refl
-
-pub spectrum-ctr-spec : {M : Type 1} → statement M
-spectrum-ctr-spec = tie.close (tie.spec returns)

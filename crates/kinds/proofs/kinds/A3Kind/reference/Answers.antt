@@ -3,12 +3,8 @@ use mathlib.Core.Path.{refl}
 use Rattle.laws.specs.Lists.{listed}
 use Rattle.kinds.specs.Kinds.{reference_of, references_of}
 use Rattle.kinds.specs.Numbers.{entries_of}
-use Rattle.kinds.proofs.kinds.A3Kind.reference.Statement.{statement}
-use Rattle.kinds.proofs.kinds.A3Kind.reference.Tie as tie
+use Rattle.kinds.proofs.kinds.A3Kind.reference.Goals as goal
 
-returns : tie.Need-returns
+pub returns : goal.returns
 unfolding entries_of listed reference_of references_of
 returns c = refl
-
-pub reference-spec : {M : Type 1} → statement M
-reference-spec = tie.close (tie.spec returns)
