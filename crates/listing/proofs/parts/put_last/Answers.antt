@@ -1,0 +1,98 @@
+-- `listing::parts::put_last` meets its contract. The invariant: of the listed sets, those with a last band below band i are written.
+-- Assumes nothing.
+use mathlib.Core.Path.{◌≡◌, sym, ap, subst}
+use mathlib.Core.List.{List, [], ◌∷◌, ◌++◌}
+use Prim.Native.Nat.{ℕ, ◌+◌, ◌-◌, ◌^◌, ◌≤◌, ◌<◌}
+use native.Mathlib.Nat.{le_refl}
+use native.Mathlib.Omega.{arith}
+use lib.ListN.{length, set}
+use Rattle.laws.specs.Lists.{front}
+use Rattle.laws.proofs.Fronts.{Writing, none_written, one_written, Turn, turn, same-room, ended}
+use Rattle.curve.specs.Levels.{at}
+use Rattle.sets.specs.Gains.{joined_by}
+use Rattle.sets.proofs.Joining.{Last, last-band, last_none, least-small, joined_end}
+use Rattle.listing.proofs.Joined.{mask_fits, mask_is}
+use Rattle.listing.proofs.parts.put_last.Goals as goal
+use Rattle.listing.proofs.parts.put_last.Goals.{In-loop-i, then-left-gains+then-gains-i, then-left-gains+else-gains-i, else-left-gains}
+
+-- the listed sets with a last band from band i on
+abbrev from : In-loop-i → ℕ → List ℕ
+from c i = let a = c.args in joined_by (at a.gains.now) a.need a.bands 1 a.part.mask i
+
+abbrev word : In-loop-i → ℕ
+word c = c.args.part.mask + 2 ^ c.loop-i.i
+
+in-word : (c : In-loop-i) → c.loop-i.i < 16
+in-word c = omega (arith, c.requires.bounded.bands)
+
+-- what band i is to the set
+last : (c : In-loop-i) → let a = c.args in Last (at a.gains.now) a.need a.bands a.part.mask a.part.sum a.part.least c.loop-i.i
+last c = last-band _ _ _ _ _ _ _ c.requires.part_of c.requires.bounded.bands _ c.loop-i.invariant.0 c.loop-i-test.true c.if-need-part.false
+
+-- the next piece of the list: the set with band i, or nothing
+turned : (c : In-loop-i) (piece : List ℕ) → from c c.loop-i.i ≡ piece ++ from c (c.loop-i.i + 1)
+    → Turn (from c c.args.part.from) piece (from c (c.loop-i.i + 1)) c.args.out.now c.loop-i.count c.loop-i.out
+turned c piece = turn _ _ _ _ _ c.requires.room c.loop-i.invariant.1 piece (from c (c.loop-i.i + 1))
+
+-- nothing is listed where the part makes up what is needed
+pub returns-then-need-part : goal.returns-then-need-part
+returns-then-need-part c =
+    let a = c.args in
+    let e = sym (last_none (at a.gains.now) a.need a.bands _ _ _ _ c.requires.part_of c.requires.bounded.bands c.if-need-part.true) in
+    record { value = ap length e; out_after = ap (λ (l : List ℕ). front l a.out.now) e; }
+
+pub overflow_add-bound : goal.overflow_add-bound
+overflow_add-bound c = omega (arith, c.requires.bounded.needed, least-small _ _ _ _ _ c.requires.part_of)
+
+pub loop-i-init : goal.loop-i-init
+loop-i-init c = (le_refl _, none_written _ _)
+
+pub bounds-gains-i : goal.bounds-gains-i
+bounds-gains-i c = in-word (goal.at.bounds-gains-i c).In-loop-i
+
+pub bounds-gains-i-then-left-gains : goal.bounds-gains-i-then-left-gains
+bounds-gains-i-then-left-gains c = in-word (goal.at.bounds-gains-i-then-left-gains c).In-loop-i
+
+pub overflow_shl-out : goal.overflow_shl-out
+overflow_shl-out c = omega (arith, in-word (goal.at.overflow_shl-out c).In-loop-i)
+
+pub overflow_add-out : goal.overflow_add-out
+overflow_add-out c =
+    let l = (goal.at.overflow_add-out c).In-loop-i in omega (arith, mask_fits _ _ (in-word l) (last l).below)
+
+-- where the set with band i is listed
+listed : (c : In-loop-i) → c.args.need - c.args.part.sum ≤ at c.args.gains.now c.loop-i.i → at c.args.gains.now c.loop-i.i < c.args.need - c.args.part.sum + c.args.part.least
+    → Turn (from c c.args.part.from) (word c ∷ []) (from c (c.loop-i.i + 1)) c.args.out.now c.loop-i.count c.loop-i.out
+listed c a b = turned c (word c ∷ []) ((last c).listed a b)
+
+pub offset_bounds-out-count : goal.offset_bounds-out-count
+offset_bounds-out-count c = omega (arith, (listed (goal.at.offset_bounds-out-count c).In-loop-i c.if-left-gains.true c.if-gains-i.true).room)
+
+pub bounds-out-count : goal.bounds-out-count
+bounds-out-count c = omega (arith, same-room _ _ _ _ _ c.requires.room c.loop-i.invariant.1, (listed (goal.at.bounds-out-count c).In-loop-i c.if-left-gains.true c.if-gains-i.true).room)
+
+pub overflow_add-count : goal.overflow_add-count
+overflow_add-count c = omega (arith, (listed (goal.at.overflow_add-count c).In-loop-i c.if-left-gains.true c.if-gains-i.true).room)
+
+pub loop-i-preserved : goal.loop-i-preserved
+loop-i-preserved c =
+    let l = c.loop-i in
+    let b = (goal.at.loop-i-preserved c).In-loop-i in
+    (
+      omega (arith, l.invariant.0),
+      elim c.if-left-gains.branch [
+        then-left-gains+then-gains-i w ↦
+            rw (w.count-is, w.out-is, mask_is c.args.part.mask l.i (in-word b))
+            (one_written _ _ _ (word b) l.count l.out c.requires.room (listed b w.if-left-gains.true w.if-gains-i.true).left)
+      | then-left-gains+else-gains-i w ↦ rw (w.count-is, w.out-is) (turned b [] ((last b).idle w.if-gains-i.false)).left
+      | else-left-gains w ↦ rw (w.count-is, w.out-is) (turned b [] ((last b).short w.if-left-gains.false)).left
+      ],
+    )
+
+pub shape_of-out : goal.shape_of-out
+shape_of-out c = same-room _ _ _ _ _ c.requires.room c.loop-i.invariant.1
+
+pub returns : goal.returns
+returns c =
+    let a = ended _ _ _ _ _ c.requires.room c.loop-i.invariant.1 (joined_end _ _ _ 0 _ _ c.loop-i-test.false) in
+    record { value = a.0; out_after = a.1; }

@@ -1,0 +1,12 @@
+-- `request::bands::bands_at` meets its contract. The loop's invariant: the bands read so far, with those that the rest of the
+-- line gives, are the bands of the line. The measure is what is left of the line. Assumes nothing.
+use Prim.Native.Nat.{◌-◌}
+use lib.ListN.{length}
+use Rattle.request.proofs.Gathers.{Gathering}
+use Rattle.request.proofs.bands.bands_at.Given as goal
+
+abbrev pub invariant-loop-band : goal.invariant-loop-band
+invariant-loop-band l = Gathering l.s l.start l.values l.marks l.weight l.count l.fault l.at
+
+abbrev pub decreases-loop-band : goal.decreases-loop-band
+decreases-loop-band l = length l.s - l.at
