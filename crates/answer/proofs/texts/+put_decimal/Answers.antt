@@ -1,6 +1,6 @@
 -- `answer::texts::put_decimal` meets its contract: one digit, two, or one more behind the digits of the tenth part, which is less.
 -- Assumes nothing.
-use Rattle.std.proofs.Common.{◌≡◌, ◌+◌, ◌/◌, ◌≤◌, ℕ, length, length-set, ap, ◌∙◌, arith}
+use Rattle.std.proofs.Common.{◌/◌, length, length-set, ap, ◌∙◌, arith}
 use Rattle.laws.proofs.Fronts.{front_length}
 use Rattle.answer.specs.Texts.{decimal}
 use Rattle.answer.proofs.Writers.{one-length, two-length, more-length, digits-one, digits-two, digits_more}

@@ -1,5 +1,5 @@
 -- `answer::texts::number_len` meets its contract: the digits, and one more byte for a number below 0. Assumes nothing.
-use Rattle.std.proofs.Common.{◌≡◌, length, sym, ap, ◌∙◌, arith}
+use Rattle.std.proofs.Common.{◌≡◌, length, ap, arith}
 use mir.Facts.{to_z-of_z}
 use Rattle.laws.specs.Parts.{P, N}
 use Rattle.laws.proofs.Ints.{ints, apart}

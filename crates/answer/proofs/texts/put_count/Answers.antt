@@ -1,11 +1,9 @@
 -- `answer::texts::put_count` meets its contract: the tab, and the digits in the tail behind it. Assumes nothing.
-use Rattle.std.proofs.Common.{◌≡◌, ◌∷◌, [], refl, set, arith}
+use Rattle.std.proofs.Common.{◌∷◌, [], refl, arith}
 use Rattle.answer.specs.Texts.{tab, decimal}
-use Rattle.laws.specs.Lists.{front}
-use Rattle.laws.proofs.Fronts.{tail-length, tail-home}
+use Rattle.laws.proofs.Fronts.{tail-home}
 use Rattle.answer.proofs.Writers.{stored1}
 use Rattle.answer.proofs.texts.put_count.Goals as goal
-use Rattle.answer.proofs.texts.put_count.Goals.{Start}
 
 pub returns : goal.returns
 returns c =

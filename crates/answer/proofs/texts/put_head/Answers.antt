@@ -1,5 +1,5 @@
 -- `answer::texts::put_head` meets its contract: the two letters and the tab, and the key in the tail behind them. Assumes nothing.
-use Rattle.std.proofs.Common.{List, ℕ, [], ◌∷◌, ◌++◌, take, drop, refl, sym, ap, ◌∙◌, arith}
+use Rattle.std.proofs.Common.{[], ◌∷◌, ◌++◌, take, drop, refl, sym, ap, ◌∙◌, arith}
 use Rattle.answer.specs.Texts.{tab}
 use Rattle.laws.specs.Lists.{front}
 use Rattle.laws.proofs.Fronts.{tail-home}

@@ -6,4 +6,7 @@ use Rattle.answer.proofs.texts.put_key.Goals as goal
 pub loop-i-preserved : goal.loop-i-preserved
 loop-i-preserved c =
     let l = c.loop-i in
-    (omega arith, key-turn c.args.s.now c.args.out.now c.args.key c.args.len c.requires.len_in_bounds c.requires.out_in_bounds l.i l.out c.loop-i-test.true l.invariant.1)
+    let a = c.args in (
+      omega arith,
+      key-turn a.s.now a.out.now a.key a.len c.requires.len_in_bounds c.requires.out_in_bounds l.i l.out c.loop-i-test.true l.invariant.1,
+    )

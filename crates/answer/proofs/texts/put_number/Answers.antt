@@ -6,7 +6,7 @@ use Rattle.laws.specs.Parts.{P, N}
 use Rattle.laws.specs.Lists.{front}
 use Rattle.laws.proofs.Ints.{ints, apart}
 use Rattle.laws.proofs.Fronts.{tail-length, tail-home}
-use Rattle.answer.specs.Texts.{tab, hyphen, decimal, number_text}
+use Rattle.answer.specs.Texts.{tab, hyphen, decimal}
 use Rattle.answer.proofs.Writers.{stored2, below_length, above-length, number-front, count-front}
 use Rattle.answer.proofs.texts.put_number.Goals as goal
 use Rattle.answer.proofs.texts.put_number.Goals.{Then-z-lt0, After-magnitude, Else-z-lt0, After-above}

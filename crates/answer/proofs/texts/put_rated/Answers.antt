@@ -1,10 +1,10 @@
 -- `answer::texts::put_rated` meets its contract. The invariant: the fields so far stand at the front, each behind its tab.
 -- Assumes nothing.
-use Rattle.std.proofs.Common.{◌≡◌, ◌+◌, ◌≤◌, ◌<◌, ℕ, pos, length, get_or, refl, ap, ◌∙◌, arith}
+use Rattle.std.proofs.Common.{◌+◌, ◌≤◌, ◌<◌, ℕ, pos, length, refl, ap, ◌∙◌, arith}
 use Rattle.laws.specs.Lists.{front}
-use Rattle.laws.proofs.Fronts.{front_length, tail-length}
+use Rattle.laws.proofs.Fronts.{tail-length}
 use Rattle.answer.specs.declared.texts.Field.TheVariants.{Number}
-use Rattle.answer.specs.Texts.{others, fields_of, texts_of, tabbed}
+use Rattle.answer.specs.Texts.{others, texts_of, tabbed}
 use Rattle.answer.proofs.Fields.{done, done-within, done-length, field-home, line-home}
 use Rattle.answer.proofs.texts.put_rated.Goals as goal
 use Rattle.answer.proofs.texts.put_rated.Goals.{After-fields_of-fields}
