@@ -1,7 +1,7 @@
 -- k is the greatest whole number with its rule, of all of ℤ. The rule at q and the rule at the index q + 70 are one inequality,
 -- both sides of the first times a power of ten; a q below -70 is below k in any case. Assumes nothing.
 use mathlib.Core.Path.{◌≡◌, sym, ◌∙◌, ap, subst}
-use Prim.Native.Nat.{ℕ, zero, suc, ◌+◌, ◌*◌, ◌-◌, ◌^◌, ◌≤◌}
+use Prim.Native.Nat.{ℕ, ◌+◌, ◌*◌, ◌-◌, ◌^◌, ◌≤◌}
 use native.Mathlib.Nat.{mul-le-mul_right, le_of_mul-le-mul_right, le_trans, le_of_eq, mul_assoc, mul-one}
 use native.Mathlib.Decide.{dec_le}
 use native.Mathlib.Omega.{arith}

@@ -3,19 +3,13 @@ use mathlib.Core.Path.{◌≡◌}
 use mir.Syntax.{w32}
 use mir.Val.{to_z, of_z}
 use Rattle.quantity.proofs.Rim.{back}
-use Rattle.curve.proofs.Counted.{up-asked, down-asked, up_is, down_is}
+use Rattle.curve.proofs.Counted.{up_is, down_is}
 use Rattle.curve.proofs.levels.counted.Goals as goal
 use Rattle.curve.proofs.levels.counted.Goals.{Start}
 
 -- the number as it is held
 read : (s : Start) → to_z w32 (of_z w32 s.args.z) ≡ s.args.z
 read s = back _ s.ranges.z.sfits
-
-pub above-requires : goal.above-requires
-above-requires c = rw (read (goal.at.above-requires c).Start) (up-asked _ c.args.z c.args.origin c.if-airborne.true c.requires)
-
-pub below-requires : goal.below-requires
-below-requires c = rw (read (goal.at.below-requires c).Start) (down-asked _ c.args.z c.args.origin c.if-airborne.false c.requires)
 
 pub returns-then-airborne : goal.returns-then-airborne
 returns-then-airborne c = up_is _ _ _ _ c.if-airborne.true c.requires (rw (read (goal.at.returns-then-airborne c).Start) at c.above.ensures)

@@ -7,29 +7,8 @@ use Rattle.curve.proofs.Walks.{least_first, least_kept, least-new}
 use Rattle.curve.proofs.levels.least.Goals as goal
 use Rattle.curve.proofs.levels.least.Goals.{then-levels-i, else-levels-i}
 
-pub bounds-levels-0 : goal.bounds-levels-0
-bounds-levels-0 c = omega arith
-
 pub loop-i-init : goal.loop-i-init
 loop-i-init c = (omega arith, least_first (at c.args.levels.now))
-
-pub offset_bounds-levels-i : goal.offset_bounds-levels-i
-offset_bounds-levels-i c = omega arith
-
-pub bounds-levels-i : goal.bounds-levels-i
-bounds-levels-i c = omega arith
-
-pub offset_bounds-levels-i-then-levels-i : goal.offset_bounds-levels-i-then-levels-i
-offset_bounds-levels-i-then-levels-i c = omega arith
-
-pub bounds-levels-i-then-levels-i : goal.bounds-levels-i-then-levels-i
-bounds-levels-i-then-levels-i c = omega arith
-
-pub overflow_add-i : goal.overflow_add-i
-overflow_add-i c = omega arith
-
-pub loop-i-smaller : goal.loop-i-smaller
-loop-i-smaller c = omega arith
 
 pub loop-i-preserved : goal.loop-i-preserved
 loop-i-preserved c =

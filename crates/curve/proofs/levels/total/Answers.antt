@@ -1,33 +1,15 @@
 -- `curve::levels::total` meets its contract. The invariant: the total of the bands passed, at the position of the height.
 -- Assumes nothing.
-use mathlib.Core.Path.{◌≡◌, ◌∙◌, ap}
+use mathlib.Core.Path.{◌∙◌, ap}
 use Prim.Native.Nat.{ℕ, ◌-◌}
 use native.Mathlib.Omega.{arith}
-use Rattle.curve.specs.Levels.{at, total_at}
+use Rattle.curve.specs.Levels.{at}
 use Rattle.curve.proofs.Walks.{total-none, total-more, total-same, total-most}
 use Rattle.curve.proofs.levels.total.Goals as goal
 use Rattle.curve.proofs.levels.total.Goals.{then-levels-i, else-levels-i}
 
-pub tenths-height-requires : goal.tenths-height-requires
-tenths-height-requires c = omega arith
-
 pub loop-i-init : goal.loop-i-init
 loop-i-init c = (omega arith, λ p e. total-none _ p)
-
-pub offset_bounds-levels-i : goal.offset_bounds-levels-i
-offset_bounds-levels-i c = omega arith
-
-pub bounds-levels-i : goal.bounds-levels-i
-bounds-levels-i c = omega arith
-
-pub offset_bounds-levels-i-then-levels-i : goal.offset_bounds-levels-i-then-levels-i
-offset_bounds-levels-i-then-levels-i c = omega arith
-
-pub bounds-levels-i-then-levels-i : goal.bounds-levels-i-then-levels-i
-bounds-levels-i-then-levels-i c = omega arith
-
-pub overflow_sub-total : goal.overflow_sub-total
-overflow_sub-total c = omega arith
 
 pub overflow_add-total : goal.overflow_add-total
 overflow_add-total c =
@@ -35,12 +17,6 @@ overflow_add-total c =
     
     let p : ℕ = c.args.p.0 in
     omega (arith, total-most (at c.args.levels.now) l.i p (omega arith), l.invariant.1 p c.tenths-height.ensures)
-
-pub overflow_add-i : goal.overflow_add-i
-overflow_add-i c = omega arith
-
-pub loop-i-smaller : goal.loop-i-smaller
-loop-i-smaller c = omega arith
 
 pub loop-i-preserved : goal.loop-i-preserved
 loop-i-preserved c =
@@ -56,9 +32,3 @@ loop-i-preserved c =
             w.total-is ∙ total-same (at levels) c.loop-i.i p c.loop-i.total (c.loop-i.invariant.1 p e) (omega (arith, w.if-levels-i.false, e))
       ],
     )
-
-pub returns : goal.returns
-returns c =
-    let a = c.args in
-    let e : c.loop-i.i ≡ a.bands = omega arith in
-    c.loop-i.invariant.1 a.p.0 c.tenths-height.ensures ∙ ap (λ (n : ℕ). total_at (at a.levels.now) n a.p.0) e

@@ -1,13 +1,8 @@
 -- `desk::ratings::rate_readings` meets its contract: intake for the kind's count, then the rating. Assumes nothing.
 use mathlib.Core.Path.{ap}
-use Rattle.kinds.proofs.Facts.{count-of}
-use Rattle.curve.proofs.Searched.{count_most}
 use Rattle.rating.specs.Sheets.{rated_answer}
 use Rattle.desk.proofs.Joined.{readings-refused, readings-rated}
 use Rattle.desk.proofs.ratings.rate_readings.Goals as goal
-
-pub take_list-list-requires : goal.take_list-list-requires
-take_list-list-requires c = rw c.bands_of.ensures (count_most (count-of c.args.kind))
 
 pub returns-in-Refused : goal.returns-in-Refused
 returns-in-Refused c = ap rated_answer (readings-refused _ _ _ _ _ _ c.bands_of.ensures c.take_list-list.ensures c.in-Refused.is)

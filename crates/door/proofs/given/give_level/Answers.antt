@@ -1,6 +1,5 @@
 -- `door::given::give_level` meets its contract. Assumes nothing.
 use borrow.Author.Rules.{rules}
-use Rattle.quantity.proofs.Rim.{back}
 use Rattle.door.specs.Given.{level_answer}
 use Rattle.door.proofs.Gives.{given, level-given}
 use Rattle.door.proofs.given.give_level.Goals as goal

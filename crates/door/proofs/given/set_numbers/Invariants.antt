@@ -1,6 +1,5 @@
 -- `door::given::set_numbers` meets its contract. The invariant: the numbers so far are the set's. Assumes nothing.
 use Prim.Native.Nat.{◌-◌, ◌≤◌}
-use mathlib.Core.List.{[]}
 use lib.IntN.{pos}
 use Rattle.laws.proofs.Lists.{Agreed}
 use Rattle.quantity.specs.Quantities.{band_of}

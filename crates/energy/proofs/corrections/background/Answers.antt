@@ -4,13 +4,9 @@ use Prim.Native.Nat.{◌-◌, ◌+◌}
 use native.Mathlib.Omega.{arith}
 use mathlib.Core.Path.{◌≡◌}
 use Rattle.energy.specs.Corrections.{c as c-of}
-use Rattle.energy.proofs.Amounts.{background-is, background-small}
+use Rattle.energy.proofs.Amounts.{background-is}
 use Rattle.energy.proofs.Lists.{backgrounds}
 use Rattle.energy.proofs.corrections.background.Goals as goal
-
-pub overflow_cast-result-2 : goal.overflow_cast-result-2
-unfolding backgrounds
-overflow_cast-result-2 c = omega (arith, background-small (c.args.d - 60) (omega arith))
 
 pub returns : goal.returns
 unfolding backgrounds

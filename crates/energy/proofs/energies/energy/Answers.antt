@@ -1,6 +1,6 @@
 -- `energy::energies::energy` meets its contract: the table's number, its hundredth divided down, and 0 above. Assumes nothing.
 use mathlib.Core.Path.{◌≡◌, sym, ◌∙◌, ap, subst}
-use mathlib.Core.Bool.{Bool, true, false}
+use mathlib.Core.Bool.{Bool, false}
 use Prim.Native.Nat.{ℕ, ◌*◌, ◌-◌, ◌/◌, ◌^◌, ◌≤◌, ◌<◌}
 use native.Mathlib.Omega.{arith}
 use lib.ListN.{get_or}
@@ -13,15 +13,6 @@ use Rattle.energy.proofs.energies.energy.Goals.{Then-many, Else-many}
 pub returns-then-d-gt900 : goal.returns-then-d-gt900
 returns-then-d-gt900 c = F-above c.args.d c.if-d-gt900.true
 
-whole : (c : Then-many) → Scaled true c.args.tables.now
-whole c = subst (λ (b : Bool). Scaled b c.args.tables.now) c.if-many.true c.requires
-
-pub bounds-tables-d : goal.bounds-tables-d
-bounds-tables-d c = omega (arith, (whole (goal.at.bounds-tables-d c).Then-many).long)
-
-pub returns-then-many : goal.returns-then-many
-returns-then-many c = (whole (goal.at.returns-then-many c).Then-many).each c.args.d (omega arith)
-
 abbrev rest : ℕ → ℕ
 rest d = d - 100 * (d / 100)
 
@@ -33,9 +24,6 @@ first c = (few c).each (rest c.args.d) (omega arith)
 
 most : (c : Else-many) (i : ℕ) → i < 100 → get_or c.args.tables.now i 0 ≤ 1000000000
 most c i h = omega (arith, (few c).each i h, F-most i)
-
-pub bounds-tables-d-2 : goal.bounds-tables-d-2
-bounds-tables-d-2 c = omega (arith, (few (goal.at.bounds-tables-d-2 c).Else-many).long)
 
 pub divided-requires : goal.divided-requires
 divided-requires c = (most (goal.at.divided-requires c).Else-many _ (omega arith), omega arith)

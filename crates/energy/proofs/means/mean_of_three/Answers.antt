@@ -7,7 +7,6 @@ use Rattle.energy.specs.Means.{v, sum₃, mean₃}
 use Rattle.energy.proofs.Threes.{sum-bounds, mean-sum, v-most}
 use Rattle.energy.proofs.means.mean_of_three.Goals as goal
 use Rattle.energy.proofs.means.mean_of_three.Goals.{After-energy-3, After-step_of_sum}
-use Rattle.energy.proofs.means.mean_of_three.Lts.View as view
 
 abbrev sum : After-energy-3 → ℕ
 sum c = sum₃ c.args.x c.args.y c.args.z
@@ -25,14 +24,15 @@ pub step_of_sum-requires : goal.step_of_sum-requires
 step_of_sum-requires c = rw (added c) record { summed = bounds c; mean_tabled = c.requires.mean_tabled }
 
 -- the step of the sum
-step : (c : After-step_of_sum) → c.step_of_sum.result ≡ v (sum (view.up-After-energy-3 _ _ _ _ c.before.before))
-step c = c.step_of_sum.ensures ∙ ap v (added (view.up-After-energy-3 _ _ _ _ c.before.before))
+step : (c : After-step_of_sum) {s : ℕ} → c.energy.result + c.energy-2.result + c.energy-3.result ≡ s → c.step_of_sum.result ≡ v s
+step c e = c.step_of_sum.ensures ∙ ap v e
 
 pub overflow_add-result : goal.overflow_add-result
 overflow_add-result c =
-    let b = bounds (goal.at.overflow_add-result c).After-energy-3 in
-    omega (arith, v-most (sum (goal.at.overflow_add-result c).After-energy-3) b.0 b.1, step c)
+    let w = (goal.at.overflow_add-result c).After-energy-3 in
+    let b = bounds w in
+    omega (arith, v-most (sum w) b.0 b.1, step c (added w))
 
 pub returns : goal.returns
 unfolding mean₃
-returns c = ap₂ ◌+◌ (least (goal.at.returns c).After-energy-3) (step c)
+returns c = let w = (goal.at.returns c).After-energy-3 in ap₂ ◌+◌ (least w) (step c (added w))

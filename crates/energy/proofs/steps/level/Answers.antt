@@ -1,7 +1,7 @@
 -- `energy::steps::level` meets its contract: u is the start of its stretch, and as many more as of the next three thresholds are
 -- not missed. Assumes nothing.
 use mathlib.Core.Path.{◌≡◌, ◌∙◌, ap, ap₂}
-use Prim.Native.Nat.{ℕ, ◌+◌, ◌-◌, ◌≤◌, ◌<◌}
+use Prim.Native.Nat.{ℕ, ◌+◌, ◌-◌, ◌<◌}
 use native.Mathlib.Omega.{arith}
 use lib.ListN.{length, get_or}
 use Rattle.energy.specs.Tabled.{reach, start_in, stretch_of, missed_at}
@@ -9,7 +9,6 @@ use Rattle.energy.proofs.Starts.{stretch-among}
 use Rattle.energy.proofs.Counted.{counted, reach-most}
 use Rattle.energy.proofs.steps.level.Goals as goal
 use Rattle.energy.proofs.steps.level.Goals.{After-stretch, After-missed_of_three}
-use Rattle.energy.proofs.steps.level.Lts.View as view
 
 place : (c : After-stretch) → c.behind-at.result + 123 + c.stretch.result ≡ reach c.args.many + 123 + stretch_of c.args.s
 place c = ap₂ (λ (a b : ℕ). a + 123 + b) c.behind-at.ensures c.stretch.ensures
@@ -22,9 +21,6 @@ near c = omega (arith, place c, stretch-among c.args.s c.requires.summed, reach-
 
 below-is : (c : After-stretch) → get_or c.args.tables.now (c.behind-at.result + 123 + c.stretch.result) 0 ≡ start_in c.args.many c.args.tables.now c.args.s
 below-is c = ap (λ (i : ℕ). get_or c.args.tables.now i 0) (place c)
-
-fits : (c : After-stretch) → start_in c.args.many c.args.tables.now c.args.s ≤ 120
-fits c = c.requires.stepped.fits c.args.s c.requires.summed
 
 -- where the thresholds behind it do
 next-is : (c : After-stretch) → c.behind-at.result + get_or c.args.tables.now (c.behind-at.result + 123 + c.stretch.result) 0
@@ -40,29 +36,21 @@ offset_bounds-tables-at c = omega (arith, near c)
 pub bounds-tables-at : goal.bounds-tables-at
 bounds-tables-at c = among (goal.at.bounds-tables-at c).After-stretch
 
-pub overflow_add-result : goal.overflow_add-result
-overflow_add-result c = omega (arith, below-is (goal.at.overflow_add-result c).After-stretch, fits (goal.at.overflow_add-result c).After-stretch)
-
-pub overflow_cast-below : goal.overflow_cast-below
-overflow_cast-below c = omega (arith, below-is (goal.at.overflow_cast-below c).After-stretch, fits (goal.at.overflow_cast-below c).After-stretch)
-
-pub overflow_add-at : goal.overflow_add-at
-overflow_add-at c = omega (arith, next-is (goal.at.overflow_add-at c).After-stretch, fits (goal.at.overflow_add-at c).After-stretch, reach-most c.args.many)
-
-pub missed_of_three-requires : goal.missed_of_three-requires
-missed_of_three-requires c = record { i_in_bounds = omega (arith, next-is (goal.at.missed_of_three-requires c).After-stretch, fits (goal.at.missed_of_three-requires c).After-stretch, c.requires.stepped.long); s_bound = omega (arith, c.requires.summed.1) }
-
 -- the thresholds that are missed are those behind the start
-three : (c : After-missed_of_three) → let a = c.args in
-    let i : ℕ = reach a.many + start_in a.many a.tables.now a.s in
+three : (c : After-missed_of_three) {i : ℕ} → c.behind-at.result + get_or c.args.tables.now (c.behind-at.result + 123 + c.stretch.result) 0 ≡ i
+    → let a = c.args in
     c.missed_of_three.result ≡ missed_at a.s a.tables.now i + missed_at a.s a.tables.now (i + 1) + missed_at a.s a.tables.now (i + 2)
-three c =
+three c e =
     let a = c.args in
     c.missed_of_three.ensures
-    ∙ ap (λ (i : ℕ). missed_at a.s a.tables.now i + missed_at a.s a.tables.now (i + 1) + missed_at a.s a.tables.now (i + 2)) (next-is (view.up-After-stretch _ _ _ _ c.before.before.before))
+    ∙ ap (λ (i : ℕ). missed_at a.s a.tables.now i + missed_at a.s a.tables.now (i + 1) + missed_at a.s a.tables.now (i + 2)) e
 
 pub overflow_sub-result : goal.overflow_sub-result
-overflow_sub-result c = omega (arith, three c, below-is (goal.at.overflow_sub-result c).After-stretch, (counted c.requires.stepped c.args.s c.requires.summed).0)
+overflow_sub-result c =
+    let w = (goal.at.overflow_sub-result c).After-stretch in
+    omega (arith, three c (next-is w), below-is w, (counted c.requires.stepped c.args.s c.requires.summed).0)
 
 pub returns : goal.returns
-returns c = ap₂ (λ (a b : ℕ). a + 3 - b) (below-is (goal.at.returns c).After-stretch) (three c) ∙ (counted c.requires.stepped c.args.s c.requires.summed).1
+returns c =
+    let w = (goal.at.returns c).After-stretch in
+    ap₂ (λ (a b : ℕ). a + 3 - b) (below-is w) (three c (next-is w)) ∙ (counted c.requires.stepped c.args.s c.requires.summed).1

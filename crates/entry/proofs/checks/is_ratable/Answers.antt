@@ -1,11 +1,7 @@
 -- `entry::checks::is_ratable` meets its contract: bands of a kind are rated where they are in range. Assumes nothing.
 use mathlib.Core.Path.{◌∙◌}
-use Rattle.entry.proofs.Bands.{bands-most}
 use Rattle.entry.proofs.Oks.{ratable-as}
 use Rattle.entry.proofs.checks.is_ratable.Goals as goal
-
-pub all_in_range-requires : goal.all_in_range-requires
-all_in_range-requires c = bands-most c.in-Is.kind c.bands_of.ensures
 
 pub returns-in-Is : goal.returns-in-Is
 returns-in-Is c =

@@ -1,10 +1,7 @@
 -- `entry::entries::same_key` meets its contract: the customer first, then the texts, which are the keys. Assumes nothing.
-use mathlib.Core.Path.{◌≡◌, ◌∙◌}
+use mathlib.Core.Path.{◌∙◌}
 use native.Mathlib.Omega.{arith}
-use Prim.Native.Nat.{◌≤◌}
-use lib.ListN.{length}
-use Rattle.entry.proofs.Texts.{key-room, key-length, key-customer, key-text}
-use Rattle.entry.specs.Entries.{key_of}
+use Rattle.entry.proofs.Texts.{key-customer, key-text}
 use Rattle.entry.proofs.entries.same_key.Goals as goal
 use Rattle.entry.proofs.entries.same_key.Goals.{Start}
 

@@ -1,5 +1,4 @@
 -- `entry::entries::same_text` meets its contract. The invariant: the bytes passed are the same. Assumes nothing.
-use mathlib.Core.Bool.{true}
 use native.Mathlib.Omega.{arith}
 use Rattle.laws.proofs.Ranges.{all_none}
 use Rattle.entry.proofs.Texts.{text-length, text-other, text-more, text-all}
@@ -11,20 +10,8 @@ returns-then-s-t c = text-length _ _ c.if-s-t.true
 pub loop-i-init : goal.loop-i-init
 loop-i-init c = (omega arith, all_none _)
 
-pub bounds-s-i : goal.bounds-s-i
-bounds-s-i c = omega arith
-
-pub bounds-t-i : goal.bounds-t-i
-bounds-t-i c = omega arith
-
 pub returns-then-s-i : goal.returns-then-s-i
 returns-then-s-i c = text-other c.args.s.now c.args.t.now c.loop-i.i (omega arith) c.if-s-i.true
-
-pub overflow_add-i : goal.overflow_add-i
-overflow_add-i c = omega arith
-
-pub loop-i-smaller : goal.loop-i-smaller
-loop-i-smaller c = omega arith
 
 pub loop-i-preserved : goal.loop-i-preserved
 loop-i-preserved c =

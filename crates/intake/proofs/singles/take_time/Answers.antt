@@ -30,11 +30,6 @@ returns-then-t-gt2000 c =
     let t : ℤ = c.in-Units.t in
     time-out _ _ t (time-high t (omega (ints, apart t, rw (held u) at c.if-t-gt2000.true))) refl (rounded u)
 
-pub above-requires : goal.above-requires
-above-requires c =
-    let h = held (goal.at.above-requires c).In-Units in
-    rw h (omega (ints, apart c.in-Units.t, rw h at c.if-t-lt10.false, rw h at c.if-t-gt2000.false))
-
 pub returns-else-t-gt2000 : goal.returns-else-t-gt2000
 returns-else-t-gt2000 c =
     let u = (goal.at.returns-else-t-gt2000 c).In-Units in

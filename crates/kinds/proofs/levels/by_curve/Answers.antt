@@ -1,7 +1,7 @@
 -- `kinds::levels::by_curve` meets its contract: each kind counts from its own reference curve. Assumes nothing.
 use Rattle.kinds.specs.Numbers.{entries_of}
 use Rattle.kinds.proofs.Facts.{entries_fit}
-use Rattle.kinds.proofs.Leveled.{asked, given}
+use Rattle.kinds.proofs.Leveled.{asked}
 use Rattle.kinds.proofs.levels.by_curve.Goals as goal
 
 pub levels-requires : goal.levels-requires
@@ -15,15 +15,3 @@ levels-requires-in-I3 c = let a = asked entries_of c.in-I3.is c.reference-in-I3.
 
 pub levels-requires-in-I1 : goal.levels-requires-in-I1
 levels-requires-in-I1 c = let a = asked entries_of c.in-I1.is c.reference-in-I1.ensures c.args.values.now entries_fit c.requires in record { bands_bound = a.0; ranged = a.1.0; each_entry = a.1.1 }
-
-pub returns-in-A3 : goal.returns-in-A3
-returns-in-A3 c = given entries_of c.in-A3.is c.reference.ensures c.levels.ensures
-
-pub returns-in-A1 : goal.returns-in-A1
-returns-in-A1 c = given entries_of c.in-A1.is c.reference-in-A1.ensures c.levels-in-A1.ensures
-
-pub returns-in-I3 : goal.returns-in-I3
-returns-in-I3 c = given entries_of c.in-I3.is c.reference-in-I3.ensures c.levels-in-I3.ensures
-
-pub returns-in-I1 : goal.returns-in-I1
-returns-in-I1 c = given entries_of c.in-I1.is c.reference-in-I1.ensures c.levels-in-I1.ensures

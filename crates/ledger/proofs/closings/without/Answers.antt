@@ -1,6 +1,6 @@
 -- `ledger::closings::without` meets its contract. The invariant: the places passed were gone through, and the first that is free
 -- comes after the others among them. Assumes nothing.
-use Prim.Native.Nat.{ℕ, ◌+◌, ◌≤◌}
+use Prim.Native.Nat.{◌+◌, ◌≤◌}
 use mathlib.Core.Path.{◌≡◌}
 use native.Mathlib.Omega.{arith}
 use lib.ListN.{length}

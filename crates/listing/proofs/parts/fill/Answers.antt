@@ -4,7 +4,7 @@ use mathlib.Core.List.{List}
 use mathlib.Core.Path.{subst}
 use Prim.Native.Nat.{ℕ, ◌+◌}
 use native.Mathlib.Omega.{arith}
-use Rattle.laws.proofs.Fronts.{Writing, none_written, Turn, turn, same-room, ended}
+use Rattle.laws.proofs.Fronts.{Writing, none_written, Turn, turn, ended}
 use Rattle.curve.specs.Levels.{at}
 use Rattle.sets.specs.Gains.{by_gains, joined_by}
 use Rattle.sets.proofs.Joining.{no_part, larger, larger-all, larger-step, larger-end}
@@ -31,15 +31,6 @@ loop-more-init c =
     let all : List ℕ = by_gains (at a.gains.now) a.need a.bands in
     subst (λ (r : List ℕ). Writing all r a.out.now 0 a.out.now) (larger-all (at a.gains.now) a.need a.bands) (none_written all a.out.now)
 
-pub offset_bounds-out-count : goal.offset_bounds-out-count
-offset_bounds-out-count c = omega (arith, (turned (goal.at.offset_bounds-out-count c).In-loop-more).room)
-
-pub slice_bounds-put_sets-count : goal.slice_bounds-put_sets-count
-slice_bounds-put_sets-count c = (turned (goal.at.slice_bounds-put_sets-count c).In-loop-more).within
-
-pub slice_bounds-put_sets-start : goal.slice_bounds-put_sets-start
-slice_bounds-put_sets-start c = (turned (goal.at.slice_bounds-put_sets-start c).In-loop-more).within
-
 pub put_sets-count-requires : goal.put_sets-count-requires
 put_sets-count-requires c = record {
       more_bound = omega arith;
@@ -48,16 +39,10 @@ put_sets-count-requires c = record {
       room = (turned (goal.at.put_sets-count-requires c).In-loop-more).lent;
     }
 
-pub overflow_add-count : goal.overflow_add-count
-overflow_add-count c = omega (arith, (turned (goal.at.overflow_add-count c).In-loop-more).room, c.put_sets-count.ensures.value)
-
 pub loop-more-preserved : goal.loop-more-preserved
 loop-more-preserved c =
     let r = c.put_sets-count in
     (turned (goal.at.loop-more-preserved c).In-loop-more).written r.result _ r.ensures.value r.ensures.out_after
-
-pub shape_of-out : goal.shape_of-out
-shape_of-out c = same-room _ _ _ _ _ c.requires.room c.loop-more.invariant
 
 pub returns : goal.returns
 returns c =

@@ -1,17 +1,16 @@
 -- `listing::parts::put_last` meets its contract. The invariant: of the listed sets, those with a last band below band i are written.
 -- Assumes nothing.
-use mathlib.Core.Path.{◌≡◌, sym, ap, subst}
+use mathlib.Core.Path.{◌≡◌, sym, ap}
 use mathlib.Core.List.{List, [], ◌∷◌, ◌++◌}
 use Prim.Native.Nat.{ℕ, ◌+◌, ◌-◌, ◌^◌, ◌≤◌, ◌<◌}
-use native.Mathlib.Nat.{le_refl}
 use native.Mathlib.Omega.{arith}
-use lib.ListN.{length, set}
+use lib.ListN.{length}
 use Rattle.laws.specs.Lists.{front}
-use Rattle.laws.proofs.Fronts.{Writing, none_written, one_written, Turn, turn, same-room, ended}
+use Rattle.laws.proofs.Fronts.{one_written, Turn, turn, same-room, ended}
 use Rattle.curve.specs.Levels.{at}
 use Rattle.sets.specs.Gains.{joined_by}
 use Rattle.sets.proofs.Joining.{Last, last-band, last_none, least-small, joined_end}
-use Rattle.listing.proofs.Joined.{mask_fits, mask_is}
+use Rattle.listing.proofs.Joined.{mask_is}
 use Rattle.listing.proofs.parts.put_last.Goals as goal
 use Rattle.listing.proofs.parts.put_last.Goals.{In-loop-i, then-left-gains+then-gains-i, then-left-gains+else-gains-i, else-left-gains}
 
@@ -44,35 +43,13 @@ returns-then-need-part c =
 pub overflow_add-bound : goal.overflow_add-bound
 overflow_add-bound c = omega (arith, c.requires.bounded.needed, least-small _ _ _ _ _ c.requires.part_of)
 
-pub loop-i-init : goal.loop-i-init
-loop-i-init c = (le_refl _, none_written _ _)
-
-pub bounds-gains-i : goal.bounds-gains-i
-bounds-gains-i c = in-word (goal.at.bounds-gains-i c).In-loop-i
-
-pub bounds-gains-i-then-left-gains : goal.bounds-gains-i-then-left-gains
-bounds-gains-i-then-left-gains c = in-word (goal.at.bounds-gains-i-then-left-gains c).In-loop-i
-
-pub overflow_shl-out : goal.overflow_shl-out
-overflow_shl-out c = omega (arith, in-word (goal.at.overflow_shl-out c).In-loop-i)
-
-pub overflow_add-out : goal.overflow_add-out
-overflow_add-out c =
-    let l = (goal.at.overflow_add-out c).In-loop-i in omega (arith, mask_fits _ _ (in-word l) (last l).below)
-
 -- where the set with band i is listed
 listed : (c : In-loop-i) → c.args.need - c.args.part.sum ≤ at c.args.gains.now c.loop-i.i → at c.args.gains.now c.loop-i.i < c.args.need - c.args.part.sum + c.args.part.least
     → Turn (from c c.args.part.from) (word c ∷ []) (from c (c.loop-i.i + 1)) c.args.out.now c.loop-i.count c.loop-i.out
 listed c a b = turned c (word c ∷ []) ((last c).listed a b)
 
-pub offset_bounds-out-count : goal.offset_bounds-out-count
-offset_bounds-out-count c = omega (arith, (listed (goal.at.offset_bounds-out-count c).In-loop-i c.if-left-gains.true c.if-gains-i.true).room)
-
 pub bounds-out-count : goal.bounds-out-count
 bounds-out-count c = omega (arith, same-room _ _ _ _ _ c.requires.room c.loop-i.invariant.1, (listed (goal.at.bounds-out-count c).In-loop-i c.if-left-gains.true c.if-gains-i.true).room)
-
-pub overflow_add-count : goal.overflow_add-count
-overflow_add-count c = omega (arith, (listed (goal.at.overflow_add-count c).In-loop-i c.if-left-gains.true c.if-gains-i.true).room)
 
 pub loop-i-preserved : goal.loop-i-preserved
 loop-i-preserved c =
@@ -88,9 +65,6 @@ loop-i-preserved c =
       | else-left-gains w ↦ rw (w.count-is, w.out-is) (turned b [] ((last b).short w.if-left-gains.false)).left
       ],
     )
-
-pub shape_of-out : goal.shape_of-out
-shape_of-out c = same-room _ _ _ _ _ c.requires.room c.loop-i.invariant.1
 
 pub returns : goal.returns
 returns c =

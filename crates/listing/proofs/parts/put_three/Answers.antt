@@ -2,10 +2,9 @@
 -- band is below band i are written; the sets that start with band i are the piece that `put_two` writes to the tail.
 -- Assumes nothing.
 use mathlib.Core.List.{List}
-use Prim.Native.Nat.{ℕ, ◌+◌, ◌<◌}
-use native.Mathlib.Nat.{le_refl}
+use Prim.Native.Nat.{ℕ, ◌+◌}
 use native.Mathlib.Omega.{arith}
-use Rattle.laws.proofs.Fronts.{none_written, Turn, turn, same-room, ended}
+use Rattle.laws.proofs.Fronts.{Turn, turn, ended}
 use Rattle.curve.specs.Levels.{at}
 use Rattle.sets.specs.Gains.{joined_by, PartOf}
 use Rattle.sets.proofs.Joining.{below-band, sum-small, joined_end}
@@ -38,12 +37,6 @@ longer c =
     longer-part _ _ _ _ _ e.mask_and_sum.0 e.least_and_from.1 _ _ _ _ _ c.requires.part_of c.loop-i.invariant.0 (omega arith)
     e.mask_and_sum.1 e.least_and_from.0
 
-pub loop-i-init : goal.loop-i-init
-loop-i-init c = (le_refl _, none_written _ _)
-
-pub bounds-gains-i : goal.bounds-gains-i
-bounds-gains-i c = omega (arith, c.requires.bounded.bands)
-
 pub joined-longer-requires : goal.joined-longer-requires
 joined-longer-requires c =
     let p = c.requires in record {
@@ -51,22 +44,10 @@ joined-longer-requires c =
       mask_bound = (below-band _ _ _ _ _ p.part_of _ c.loop-i.invariant.0, sum-small _ _ _ _ _ p.part_of p.bounded.small);
     }
 
-pub offset_bounds-out-count : goal.offset_bounds-out-count
-offset_bounds-out-count c = omega (arith, (turned (goal.at.offset_bounds-out-count c).After-joined-longer).room)
-
-pub slice_bounds-put_two-count : goal.slice_bounds-put_two-count
-slice_bounds-put_two-count c = (turned (goal.at.slice_bounds-put_two-count c).After-joined-longer).within
-
-pub slice_bounds-put_two-start : goal.slice_bounds-put_two-start
-slice_bounds-put_two-start c = (turned (goal.at.slice_bounds-put_two-start c).After-joined-longer).within
-
 pub put_two-count-requires : goal.put_two-count-requires
 put_two-count-requires c =
     let t = (goal.at.put_two-count-requires c).After-joined-longer in
     record { part_of = longer t; bounded = c.requires.bounded; room = (turned t).lent; }
-
-pub overflow_add-count : goal.overflow_add-count
-overflow_add-count c = omega (arith, (turned (goal.at.overflow_add-count c).After-joined-longer).room, c.put_two-count.ensures.value)
 
 pub loop-i-preserved : goal.loop-i-preserved
 loop-i-preserved c =
@@ -74,9 +55,6 @@ loop-i-preserved c =
       omega (arith, c.loop-i.invariant.0),
       (turned (goal.at.loop-i-preserved c).After-joined-longer).written r.result _ r.ensures.value r.ensures.out_after,
     )
-
-pub shape_of-out : goal.shape_of-out
-shape_of-out c = same-room _ _ _ _ _ c.requires.room c.loop-i.invariant.1
 
 pub returns : goal.returns
 returns c =

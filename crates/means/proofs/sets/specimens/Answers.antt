@@ -1,8 +1,7 @@
 -- `means::sets::specimens` meets its contract: the count, then the readings, then sixteen means. Assumes nothing.
-use mathlib.Core.Path.{◌≡◌, ◌∙◌}
+use mathlib.Core.Path.{◌∙◌}
 use native.Mathlib.Omega.{arith}
 use Rattle.means.proofs.Thirds.{specimens-count, specimens-refused, specimens-made, taken-values}
-use Rattle.quantity.specs.declared.refusals.Outcome.TheVariants.{Accepted}
 use Rattle.means.proofs.sets.specimens.Goals as goal
 
 pub returns-then-len-ne-READINGS : goal.returns-then-len-ne-READINGS

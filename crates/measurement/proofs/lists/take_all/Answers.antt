@@ -8,21 +8,6 @@ use Rattle.measurement.proofs.lists.take_all.Goals as goal
 pub loop-i-init : goal.loop-i-init
 loop-i-init c = taking-none _ _
 
-pub offset_bounds-readings-i : goal.offset_bounds-readings-i
-offset_bounds-readings-i c = omega arith
-
-pub bounds-readings-i : goal.bounds-readings-i
-bounds-readings-i c = omega arith
-
-pub offset_bounds-values-i : goal.offset_bounds-values-i
-offset_bounds-values-i c = omega arith
-
-pub bounds-values-i : goal.bounds-values-i
-bounds-values-i c = omega arith
-
-pub weight-marks-requires : goal.weight-marks-requires
-weight-marks-requires c = omega arith
-
 pub overflow_add-marks : goal.overflow_add-marks
 overflow_add-marks c =
     let l = c.loop-i in
@@ -32,12 +17,6 @@ pub returns-in-Refused : goal.returns-in-Refused
 returns-in-Refused c =
     c.refused_all.ensures
     ∙ refused_all_lem _ _ _ (refused-at c.args.readings c.args.count _ _ c.loop-i.i _ (omega arith) c.loop-i.invariant (sym c.take_reading-taken.ensures ∙ c.in-Refused.is))
-
-pub overflow_add-i : goal.overflow_add-i
-overflow_add-i c = omega arith
-
-pub loop-i-smaller : goal.loop-i-smaller
-loop-i-smaller c = omega arith
 
 pub loop-i-preserved : goal.loop-i-preserved
 loop-i-preserved c = taking-more c.args.readings c.args.count _ _ c.loop-i.i _ _ _ (omega arith) (omega arith) c.loop-i.invariant (sym c.take_reading-taken.ensures ∙ c.in-Value.is) c.weight-marks.ensures

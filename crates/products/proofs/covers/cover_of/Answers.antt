@@ -20,9 +20,6 @@ returns-then-not-all_in_range c = cover-range _ c.if-set-ne-BANDS.false (sym c.a
 within : (c : Else-not-all_in_range) → let s = c.args.set in (s.len ≡ 16) × (accepted s 16 ≡ true)
 within c = (c.if-set-ne-BANDS.false, sym c.all_in_range.ensures ∙ c.if-not-all_in_range.false)
 
-pub derived_set-floor-requires : goal.derived_set-floor-requires
-derived_set-floor-requires c = (within c).1
-
 -- what was rated is the derived set
 rating : (c : After-rate-rated) → rated_of I3 (derived_set c.args.set) ≡ c.rate-rated.result
 rating c = ap (rated_of I3) (sym c.derived_set-floor.ensures) ∙ sym c.rate-rated.ensures

@@ -7,10 +7,6 @@ use Rattle.products.proofs.Improvements.{floors, floor-most, derives}
 use Rattle.products.proofs.covers.derived.Goals as goal
 use Rattle.products.proofs.covers.derived.Goals.{After-above}
 
-pub overflow_add-i : goal.overflow_add-i
-unfolding floors
-overflow_add-i c = omega (arith, floor-most c.args.i (omega arith))
-
 pub above-requires : goal.above-requires
 above-requires c = band-asks _ 200 c.requires.ranged (omega arith) (omega arith)
 

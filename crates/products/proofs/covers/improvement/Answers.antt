@@ -3,17 +3,8 @@ use mathlib.Core.Path.{ap₂}
 use lib.IntN.{ℤ}
 use Rattle.rating.specs.Sheets.{decibels}
 use Rattle.products.specs.declared.covers.Cover.TheVariants.{Improvement}
-use Rattle.products.proofs.Signed.{rating-fits, rating-is, ten-more, term_fits, term_is}
+use Rattle.products.proofs.Signed.{rating-is, term_is}
 use Rattle.products.proofs.covers.improvement.Goals as goal
-
-pub overflow_sub-result : goal.overflow_sub-result
-overflow_sub-result c = rating-fits c.args.sheet.rating.0 c.requires.rating
-
-pub overflow_add-result : goal.overflow_add-result
-overflow_add-result c = ten-more c.args.sheet.first.0 c.requires.first
-
-pub overflow_sub-result-2 : goal.overflow_sub-result-2
-overflow_sub-result-2 c = term_fits c.args.sheet.first.0 c.requires.first
 
 pub returns : goal.returns
 returns c =

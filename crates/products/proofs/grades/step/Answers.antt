@@ -1,12 +1,9 @@
 -- `products::grades::step` meets its contract: each test of the code is the test of the rule. Assumes nothing.
 use borrow.Author.Rules.{rules}
 use mathlib.Core.Path.{◌≡◌, refl}
-use mathlib.Core.Bool.{false}
-use lib.IntN.{ℤ, pos}
-use lib.Signed.{lt_z}
+use lib.IntN.{ℤ}
 use mir.Syntax.{w32}
 use mir.Val.{to_z, of_z}
-use Rattle.quantity.proofs.Rim.{back}
 use Rattle.products.specs.Grades.{grade_of}
 use Rattle.products.proofs.grades.step.Goals as goal
 

@@ -1,6 +1,6 @@
 -- `quantity::keys::is_key_of` meets its contract. The invariant: the whole is of a key's bytes exactly if what is left is. The
 -- measure is what is left of the text. Assumes nothing.
-use mathlib.Core.Path.{◌≡◌, refl, sym, ◌∙◌}
+use mathlib.Core.Path.{◌≡◌, sym, ◌∙◌}
 use Prim.Native.Nat.{ℕ}
 use native.Mathlib.Omega.{arith}
 use lib.ListN.{drop}
@@ -16,12 +16,6 @@ returns-then-key-lt1 c = shape-none _ c.if-key-lt1.true
 pub returns-then-key-gt32 : goal.returns-then-key-gt32
 returns-then-key-gt32 c = shape-long _ c.if-key-lt1.false c.if-key-gt32.true
 
-pub loop-i-init : goal.loop-i-init
-loop-i-init c = (omega arith, refl)
-
-pub bounds-key-i : goal.bounds-key-i
-bounds-key-i c = omega arith
-
 -- the text, and that it has a key's shape exactly if what is left is of a key's bytes
 abbrev key : At-loop-i → List ℕ
 key b = b.args.key.now
@@ -31,12 +25,6 @@ shape b = sym b.loop-i.invariant.1 ∙ shape-by (key b) (omega arith) (omega ari
 
 pub returns-then-not-is_key : goal.returns-then-not-is_key
 returns-then-not-is_key c = sym (all-fails (key (goal.at.returns-then-not-is_key c).At-loop-i) c.loop-i.i (omega arith) (sym c.is_key.ensures ∙ c.if-not-is_key.true)) ∙ shape (goal.at.returns-then-not-is_key c).At-loop-i
-
-pub overflow_add-i : goal.overflow_add-i
-overflow_add-i c = omega arith
-
-pub loop-i-smaller : goal.loop-i-smaller
-loop-i-smaller c = omega arith
 
 pub loop-i-preserved : goal.loop-i-preserved
 loop-i-preserved c =

@@ -1,15 +1,10 @@
 -- `rating::sheets::accept` meets its contract: the length is tested first, then the bands. Assumes nothing.
 use mathlib.Core.Path.{sym, ◌∙◌}
-use Rattle.curve.proofs.Searched.{count_most}
-use Rattle.kinds.proofs.Facts.{count-of}
 use Rattle.rating.proofs.RatedLaws.{other-count, out_of_range, all_fit}
 use Rattle.rating.proofs.sheets.accept.Goals as goal
 
 pub returns-then-set-bands : goal.returns-then-set-bands
 returns-then-set-bands c = other-count _ _ _ c.bands_of-bands.ensures c.if-set-bands.true
-
-pub all_in_range-requires : goal.all_in_range-requires
-all_in_range-requires c = rw c.bands_of-bands.ensures (count_most (count-of c.args.kind))
 
 pub returns-then-not-all_in_range : goal.returns-then-not-all_in_range
 returns-then-not-all_in_range c =

@@ -1,14 +1,8 @@
 -- `rating::sheets::rating_of` meets its contract: the position found by the levels of the set is the rating's. Assumes nothing.
-use mathlib.Core.Bool.{true}
-use mathlib.Core.Path.{◌≡◌}
 use Rattle.quantity.specs.Quantities.{band_of}
-use Rattle.quantity.specs.declared.quantities.BandSet.{BandSet}
-use Rattle.curve.specs.Bands.{accepted}
 use Rattle.curve.specs.Levels.{Levels}
-use Rattle.kinds.specs.declared.kinds.Kind.{Kind}
-use Rattle.kinds.specs.declared.kinds.Numbers.{Numbers}
 use Rattle.kinds.specs.Kinds.{airborne, bands_of}
-use Rattle.kinds.specs.Numbers.{entries_of, numbers_of}
+use Rattle.kinds.specs.Numbers.{entries_of}
 use Rattle.kinds.proofs.Facts.{entries_fit}
 use Rattle.rating.specs.Found.{Sought}
 use Rattle.rating.proofs.RatedLaws.{bands-are}

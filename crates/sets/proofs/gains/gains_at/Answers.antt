@@ -7,7 +7,7 @@ use native.Mathlib.Omega.{arith}
 use lib.ListN.{length-set}
 use lib.IntN.{ℤ}
 use Rattle.quantity.specs.Quantities.{in_range, band_of}
-use Rattle.curve.specs.Levels.{at, level_by, level_at, total_at, Entries}
+use Rattle.curve.specs.Levels.{at, level_by, level_at, Entries}
 use Rattle.curve.proofs.Walks.{put-more, total-none, total-more}
 use Rattle.curve.proofs.Searched.{band-in}
 use Rattle.sets.specs.Gains.{gain_at}
@@ -59,9 +59,6 @@ lacking-lifted-requires c = record {
 pub overflow_sub-each : goal.overflow_sub-each
 overflow_sub-each c = omega (arith, c.lacking-now.ensures, lifted-is (goal.at.overflow_sub-each c).After-lacking-lifted, best-most _ _ _ (value_in (goal.at.overflow_sub-each c).In-loop-i) (entry_in (goal.at.overflow_sub-each c).In-loop-i))
 
-pub overflow_add-total : goal.overflow_add-total
-overflow_add-total c = omega (arith, c.lacking-now.ensures, c.tenths-height.ensures)
-
 pub loop-i-preserved : goal.loop-i-preserved
 loop-i-preserved c =
     let l = c.loop-i in
@@ -79,14 +76,3 @@ loop-i-preserved c =
       λ p e. total-more (level_at a.airborne a.set a.entries) l.i p l.total c.lacking-now.result (l.invariant.4 p e) (lacks p e),
       omega (arith, c.lacking-now.ensures, c.tenths-height.ensures),
     )
-
-pub returns : goal.returns
-returns c =
-    let l = c.loop-i in
-    let a = c.args in
-    let e : l.i ≡ a.bands = omega arith in
-    record {
-      each = λ j h. l.invariant.2 a.p.0 j c.tenths-height.ensures (omega arith);
-      rest = λ j h. l.invariant.3 j (omega arith);
-      all = l.invariant.4 a.p.0 c.tenths-height.ensures ∙ ap (λ (n : ℕ). total_at (level_at a.airborne a.set a.entries) n a.p.0) e;
-    }

@@ -11,12 +11,6 @@ use Rattle.till.proofs.registers.give_billed.Goals.{In-Charged}
 fits : (c : In-Charged) → let a = c.in-Charged in (a.sheet.shifts ≤ 500) × (a.now.0 ≤ 1000000)
 fits c = bill-fitting _ _ _ c.in-Charged.is c.requires
 
-pub overflow_cast-charged : goal.overflow_cast-charged
-overflow_cast-charged c = record { sfits = omega (arith, fits (goal.at.overflow_cast-charged c).In-Charged) }
-
-pub sheet_numbers-answer-requires : goal.sheet_numbers-answer-requires
-sheet_numbers-answer-requires c = (fits (goal.at.sheet_numbers-answer-requires c).In-Charged).0
-
 pub returns-in-Charged : goal.returns-in-Charged
 returns-in-Charged c =
     let t = c.sheet_numbers-answer in
