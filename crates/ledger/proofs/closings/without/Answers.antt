@@ -33,7 +33,8 @@ overflow_add-free c = omega (arith, next c, others-most c.args.customer c.args.r
 pub loop-i-preserved : goal.loop-i-preserved
 loop-i-preserved c =
     let l = c.loop-i in
-    (omega arith, next c, moved_more _ c.args.register l.i (omega arith) _ _ _ _ l.invariant.1 l.invariant.2 c.no_entry-nothing.ensures c.spared.ensures)
+    let m = moved_more _ c.args.register l.i (omega arith) _ _ _ _ l.invariant.1 l.invariant.2 c.no_entry-nothing.ensures c.spared.ensures in
+    (omega arith, next c, m)
 
 pub returns : goal.returns
 returns c = moved_all _ c.args.register c.loop-i.i _ _ (omega arith) c.loop-i.invariant.1 c.loop-i.invariant.2

@@ -7,7 +7,8 @@ use Rattle.ledger.specs.Closings.{others, moved_to}
 use Rattle.ledger.proofs.closings.without.Given as goal
 
 abbrev pub invariant-loop-i : goal.invariant-loop-i
-invariant-loop-i l = (l.i ≤ l.count) × (l.free ≡ length (others l.customer l.register l.i)) × (l.entries ≡ moved_to l.customer l.register l.i)
+invariant-loop-i l =
+    (l.i ≤ l.count) × (l.free ≡ length (others l.customer l.register l.i)) × (l.entries ≡ moved_to l.customer l.register l.i)
 
 abbrev pub decreases-loop-i : goal.decreases-loop-i
 decreases-loop-i l = l.count - l.i

@@ -33,8 +33,11 @@ overflow_sub-gains c = (done (goal.at.overflow_sub-gains c).After-gains_at-gains
 pub fill-requires : goal.fill-requires
 fill-requires c =
     let d = done (goal.at.fill-requires c).After-gains_at-gains in
-    record { bounded = d.bounded; room = d.fits }
+    record { bounded = d.bounded; room = d.fits; }
 
 pub returns : goal.returns
 returns c =
-    let a = c.args in record { value = c.fill.ensures.value ∙ ap length (done (goal.at.returns c).After-gains_at-gains).list; out_after = c.fill.ensures.out_after ∙ ap (λ (l : List ℕ). front l a.out.now) (done (goal.at.returns c).After-gains_at-gains).list }
+    let e = (done (goal.at.returns c).After-gains_at-gains).list in record {
+      value = c.fill.ensures.value ∙ ap length e;
+      out_after = c.fill.ensures.out_after ∙ ap (λ (l : List ℕ). front l c.args.out.now) e;
+    }

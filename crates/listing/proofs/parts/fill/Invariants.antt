@@ -8,7 +8,8 @@ use Rattle.sets.proofs.Joining.{larger}
 use Rattle.listing.proofs.parts.fill.Given as goal
 
 abbrev pub invariant-loop-more : goal.invariant-loop-more
-invariant-loop-more l = Writing (by_gains (at l.gains) l.need l.bands) (larger (at l.gains) l.need l.bands l.more) l.initial.out l.count l.out
+invariant-loop-more l =
+    Writing (by_gains (at l.gains) l.need l.bands) (larger (at l.gains) l.need l.bands l.more) l.initial.out l.count l.out
 
 abbrev pub decreases-loop-more : goal.decreases-loop-more
 decreases-loop-more l = 3 - l.more

@@ -44,12 +44,14 @@ pub overflow_add-bound : goal.overflow_add-bound
 overflow_add-bound c = omega (arith, c.requires.bounded.needed, least-small _ _ _ _ _ c.requires.part_of)
 
 -- where the set with band i is listed
-listed : (c : In-loop-i) → c.args.need - c.args.part.sum ≤ at c.args.gains.now c.loop-i.i → at c.args.gains.now c.loop-i.i < c.args.need - c.args.part.sum + c.args.part.least
+listed : (c : In-loop-i) → let a = c.args in let g = at a.gains.now c.loop-i.i in a.need - a.part.sum ≤ g → g < a.need - a.part.sum + a.part.least
     → Turn (from c c.args.part.from) (word c ∷ []) (from c (c.loop-i.i + 1)) c.args.out.now c.loop-i.count c.loop-i.out
 listed c a b = turned c (word c ∷ []) ((last c).listed a b)
 
 pub bounds-out-count : goal.bounds-out-count
-bounds-out-count c = omega (arith, same-room _ _ _ _ _ c.requires.room c.loop-i.invariant.1, (listed (goal.at.bounds-out-count c).In-loop-i c.if-left-gains.true c.if-gains-i.true).room)
+bounds-out-count c =
+    let t = listed (goal.at.bounds-out-count c).In-loop-i c.if-left-gains.true c.if-gains-i.true in
+    omega (arith, same-room _ _ _ _ _ c.requires.room c.loop-i.invariant.1, t.room)
 
 pub loop-i-preserved : goal.loop-i-preserved
 loop-i-preserved c =

@@ -1,15 +1,17 @@
 -- `listing::parts::put_two` meets its contract. The invariant: of the listed sets of the part and two bands more, those whose next
 -- band is below band i are written; the sets that start with band i are the piece that `put_last` writes to the tail.
 -- Assumes nothing.
-use Prim.Native.Nat.{◌-◌, ◌≤◌}
+use mathlib.Core.List.{List}
+use Prim.Native.Nat.{ℕ, ◌-◌, ◌≤◌}
 use Rattle.laws.proofs.Fronts.{Writing}
 use Rattle.curve.specs.Levels.{at}
 use Rattle.sets.specs.Gains.{joined_by}
 use Rattle.listing.proofs.parts.put_two.Given as goal
 
 abbrev pub invariant-loop-i : goal.invariant-loop-i
-invariant-loop-i l = (l.part.from ≤ l.i)
-    × Writing (joined_by (at l.gains) l.need l.bands 2 l.part.mask l.part.from) (joined_by (at l.gains) l.need l.bands 2 l.part.mask l.i) l.initial.out l.count l.out
+invariant-loop-i l =
+    let from : ℕ → List ℕ = λ i. joined_by (at l.gains) l.need l.bands 2 l.part.mask i in
+    (l.part.from ≤ l.i) × Writing (from l.part.from) (from l.i) l.initial.out l.count l.out
 
 abbrev pub decreases-loop-i : goal.decreases-loop-i
 decreases-loop-i l = l.bands - l.i

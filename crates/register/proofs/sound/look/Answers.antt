@@ -24,7 +24,8 @@ loop-i-init c =
     (omega arith, all_none _, agreed-none 0 (λ j. word_of (entry_at r j)) 512 _ refl, met-none r _ refl)
 
 pub returns-then-not-entry_ok : goal.returns-then-not-entry_ok
-returns-then-not-entry_ok c = looked-bad _ _ (all-fails _ c.args.register.count c.loop-i.i (omega arith) (sym c.entry_ok.ensures ∙ c.if-not-entry_ok.true))
+returns-then-not-entry_ok c =
+    looked-bad _ _ (all-fails _ c.args.register.count c.loop-i.i (omega arith) (sym c.entry_ok.ensures ∙ c.if-not-entry_ok.true))
 
 -- an entry that is looked at further is sound, so its key is short
 good : (c : Else-not-entry_ok) → entry_ok (entry_at c.args.register c.loop-i.i) ≡ true
@@ -52,10 +53,11 @@ returns-then-place_of-i c =
 pub returns : goal.returns
 returns c =
     let r = c.args.register in
-    let e : c.loop-i.i ≡ r.count = omega arith in
-    looked r c.loop-i.words true c.if-count-gt512.false (ap (λ (n : ℕ). all_to (λ j. entry_ok (entry_at r j)) n) (sym e) ∙ c.loop-i.invariant.1)
-    (sym (ap (λ (n : ℕ). all_to (λ j. not (repeated r j)) n) (sym e) ∙ c.loop-i.invariant.3.fresh))
-    (λ j h. c.loop-i.invariant.2.same j (omega arith))
+    let l = c.loop-i in
+    let e : l.i ≡ r.count = omega arith in
+    looked r l.words true c.if-count-gt512.false (ap (λ (n : ℕ). all_to (λ j. entry_ok (entry_at r j)) n) (sym e) ∙ l.invariant.1)
+    (sym (ap (λ (n : ℕ). all_to (λ j. not (repeated r j)) n) (sym e) ∙ l.invariant.3.fresh))
+    (λ j h. l.invariant.2.same j (omega arith))
 
 pub loop-i-preserved : goal.loop-i-preserved
 loop-i-preserved c =

@@ -11,7 +11,9 @@ use Rattle.register.proofs.Places.{Met}
 use Rattle.register.proofs.sound.look.Given as goal
 
 abbrev pub invariant-loop-i : goal.invariant-loop-i
-invariant-loop-i l = (l.i ≤ l.count) × (all_to (λ j. entry_ok (entry_at l.register j)) l.i ≡ true) × Agreed 0 (λ j. word_of (entry_at l.register j)) 512 l.words l.i × Met l.register l.met l.i
+invariant-loop-i l =
+    (l.i ≤ l.count) × (all_to (λ j. entry_ok (entry_at l.register j)) l.i ≡ true)
+    × Agreed 0 (λ j. word_of (entry_at l.register j)) 512 l.words l.i × Met l.register l.met l.i
 
 abbrev pub decreases-loop-i : goal.decreases-loop-i
 decreases-loop-i l = l.count - l.i

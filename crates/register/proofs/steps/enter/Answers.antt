@@ -14,6 +14,7 @@ use Rattle.register.proofs.Dues.{due-damaged, due-shape, due-refused, due-price,
 use Rattle.register.proofs.steps.enter.Goals as goal
 use Rattle.register.proofs.steps.enter.Goals.{Start, Else-not-looked, Else-not-is_key_of, In-Rating}
 
+-- the call
 abbrev call : Start → Call
 call c = call_of c.args.customer c.args.key.now c.args.kind c.args.set c.args.price.0
 
@@ -37,16 +38,19 @@ pub returns-then-not-looked : goal.returns-then-not-looked
 returns-then-not-looked c =
     let l = c.look-looked in
     let d = due-damaged _ _ (sym l.ensures.right ∙ not-true l.result.sound c.if-not-looked.true) in
-    let g = c.refuse.ensures in
-    let a = step-refused _ _ _ _ g d in record { billed = a.0; register_after = a.1; }
+    let a = step-refused _ _ _ _ c.refuse.ensures d in record { billed = a.0; register_after = a.1; }
 
 pub returns-then-not-is_key_of : goal.returns-then-not-is_key_of
-returns-then-not-is_key_of c = let a = step-refused _ _ _ _ c.refuse-then-not-is_key_of.ensures (due-shape _ _ (whole (goal.at.returns-then-not-is_key_of c).Else-not-looked) (sym c.is_key_of.ensures ∙ c.if-not-is_key_of.true)) in record { billed = a.0; register_after = a.1 }
+returns-then-not-is_key_of c =
+    let w = whole (goal.at.returns-then-not-is_key_of c).Else-not-looked in
+    let d = due-shape _ _ w (sym c.is_key_of.ensures ∙ c.if-not-is_key_of.true) in
+    let a = step-refused _ _ _ _ c.refuse-then-not-is_key_of.ensures d in record { billed = a.0; register_after = a.1; }
 
 pub returns-then-not-in_range : goal.returns-then-not-in_range
-returns-then-not-in_range c = let a = (let r = rated (goal.at.returns-then-not-in_range c).In-Rating in
-    let p = c.in_range in
-    step-refused _ _ _ _ c.refuse-then-not-in_range.ensures (due-price _ _ r.0 r.1 _ r.2 (sym p.ensures ∙ c.if-not-in_range.true))) in record { billed = a.0; register_after = a.1 }
+returns-then-not-in_range c =
+    let r = rated (goal.at.returns-then-not-in_range c).In-Rating in
+    let d = due-price _ _ r.0 r.1 _ r.2 (sym c.in_range.ensures ∙ c.if-not-in_range.true) in
+    let a = step-refused _ _ _ _ c.refuse-then-not-in_range.ensures d in record { billed = a.0; register_after = a.1; }
 
 pub entry_of-requires : goal.entry_of-requires
 entry_of-requires c = (key-shape _ (shaped (goal.at.entry_of-requires c).Else-not-is_key_of).1).most
@@ -54,15 +58,23 @@ entry_of-requires c = (key-shape _ (shaped (goal.at.entry_of-requires c).Else-no
 pub place-requires : goal.place-requires
 place-requires c =
     let k = shaped (goal.at.place-requires c).Else-not-is_key_of in
-    let e = c.entry_of.ensures in
-    record { is_sound = k.0; words_of = c.look-looked.ensures.each k.0; length_bound = (omega (arith, entry_length (call (goal.at.place-requires c).Start) e, (key-shape _ k.1).most), entry-kind (call (goal.at.place-requires c).Start) e) }
+    let x = call (goal.at.place-requires c).Start in
+    let e = c.entry_of.ensures in record {
+      is_sound = k.0;
+      words_of = c.look-looked.ensures.each k.0;
+      length_bound = (omega (arith, entry_length x e, (key-shape _ k.1).most), entry-kind x e);
+    }
 
 pub returns-in-Refused : goal.returns-in-Refused
-returns-in-Refused c = let a = (let k = shaped (goal.at.returns-in-Refused c).Else-not-is_key_of in
-    step-refused _ _ _ _ c.refuse-in-Refused.ensures (due-refused _ _ k.0 k.1 _ (sym c.rate.ensures ∙ c.in-Refused.is))) in record { billed = a.0; register_after = a.1 }
+returns-in-Refused c =
+    let k = shaped (goal.at.returns-in-Refused c).Else-not-is_key_of in
+    let d = due-refused _ _ k.0 k.1 _ (sym c.rate.ensures ∙ c.in-Refused.is) in
+    let a = step-refused _ _ _ _ c.refuse-in-Refused.ensures d in record { billed = a.0; register_after = a.1; }
 
 pub returns-else-not-in_range : goal.returns-else-not-in_range
-returns-else-not-in_range c = let a = (let r = rated (goal.at.returns-else-not-in_range c).In-Rating in
-    step-placed _ (call (goal.at.returns-else-not-in_range c).Start) _ _ _ c.entry_of.ensures
-    (due-placed _ (call (goal.at.returns-else-not-in_range c).Start) r.0 r.1 _ r.2 (sym c.in_range.ensures ∙ c.if-not-in_range.false))
-    c.place.ensures.billed c.place.ensures.register_after) in record { billed = a.0; register_after = a.1 }
+returns-else-not-in_range c =
+    let x = call (goal.at.returns-else-not-in_range c).Start in
+    let r = rated (goal.at.returns-else-not-in_range c).In-Rating in
+    let d = due-placed _ x r.0 r.1 _ r.2 (sym c.in_range.ensures ∙ c.if-not-in_range.false) in
+    let p = c.place.ensures in
+    let a = step-placed _ x _ _ _ c.entry_of.ensures d p.billed p.register_after in record { billed = a.0; register_after = a.1; }

@@ -37,14 +37,22 @@ bounds-register-at c = omega (arith, most (goal.at.bounds-register-at c).After-p
 pub returns-then-same_bands : goal.returns-then-same_bands
 returns-then-same_bands c =
     let a = c.args in
-    rw (due-same a.register a.e a.sheet _ c.if-at-count.true (found (goal.at.returns-then-same_bands c).Then-at-count) (sym c.same_bands.ensures ∙ c.if-same_bands.true)) record { billed = refl; register_after = refl }
+    let f = found (goal.at.returns-then-same_bands c).Then-at-count in
+    rw (due-same a.register a.e a.sheet _ c.if-at-count.true f (sym c.same_bands.ensures ∙ c.if-same_bands.true))
+    record { billed = refl; register_after = refl; }
 
 pub returns-then-at-count : goal.returns-then-at-count
-returns-then-at-count c = let a = refused-by _ _ _ _ _ _ c.refuse.ensures
-    (due-other _ _ _ _ c.if-at-count.true (found (goal.at.returns-then-at-count c).Then-at-count) c.requires.is_sound (sym c.same_bands.ensures ∙ c.if-same_bands.false)) in record { billed = a.0; register_after = a.1 }
+returns-then-at-count c =
+    let f = found (goal.at.returns-then-at-count c).Then-at-count in
+    let d = due-other _ _ _ _ c.if-at-count.true f c.requires.is_sound (sym c.same_bands.ensures ∙ c.if-same_bands.false) in
+    let a = refused-by _ _ _ _ _ _ c.refuse.ensures d in record { billed = a.0; register_after = a.1; }
 
 pub returns-then-count-lt512 : goal.returns-then-count-lt512
-returns-then-count-lt512 c = rw (due-new c.args.register _ c.args.sheet (missed (goal.at.returns-then-count-lt512 c).Else-at-count) c.if-count-lt512.true) record { billed = refl; register_after = c.with_entry.ensures }
+returns-then-count-lt512 c =
+    let m = missed (goal.at.returns-then-count-lt512 c).Else-at-count in
+    rw (due-new c.args.register _ c.args.sheet m c.if-count-lt512.true) record { billed = refl; register_after = c.with_entry.ensures; }
 
 pub returns : goal.returns
-returns c = let a = refused-by _ _ _ _ _ _ c.refuse-2.ensures (due-full _ _ _ (missed (goal.at.returns c).Else-at-count) c.if-count-lt512.false) in record { billed = a.0; register_after = a.1 }
+returns c =
+    let d = due-full _ _ _ (missed (goal.at.returns c).Else-at-count) c.if-count-lt512.false in
+    let a = refused-by _ _ _ _ _ _ c.refuse-2.ensures d in record { billed = a.0; register_after = a.1; }

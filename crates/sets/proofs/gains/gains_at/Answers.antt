@@ -57,7 +57,10 @@ lacking-lifted-requires c = record {
     }
 
 pub overflow_sub-each : goal.overflow_sub-each
-overflow_sub-each c = omega (arith, c.lacking-now.ensures, lifted-is (goal.at.overflow_sub-each c).After-lacking-lifted, best-most _ _ _ (value_in (goal.at.overflow_sub-each c).In-loop-i) (entry_in (goal.at.overflow_sub-each c).In-loop-i))
+overflow_sub-each c =
+    let t = goal.at.overflow_sub-each c in
+    let most = best-most _ _ _ (value_in t.In-loop-i) (entry_in t.In-loop-i) in
+    omega (arith, c.lacking-now.ensures, lifted-is t.After-lacking-lifted, most)
 
 pub loop-i-preserved : goal.loop-i-preserved
 loop-i-preserved c =

@@ -8,8 +8,11 @@ use Rattle.sets.specs.Gains.{gain_at}
 use Rattle.sets.proofs.gains.gains_at.Given as goal
 
 abbrev pub invariant-loop-i : goal.invariant-loop-i
-invariant-loop-i l = (l.i ≤ l.bands) × (length l.each ≡ 16) × ((p j : ℕ) → l.height ≡ 10 * p → j < l.i → get_or l.each j 0 ≡ gain_at l.airborne l.set l.entries p j)
-    × ((j : ℕ) → l.i ≤ j → get_or l.each j 0 ≡ 0) × ((p : ℕ) → l.height ≡ 10 * p → l.total ≡ total_at (level_at l.airborne l.set l.entries) l.i p) × (l.total ≤ 5000 * l.i)
+invariant-loop-i l =
+    (l.i ≤ l.bands) × (length l.each ≡ 16)
+    × ((p j : ℕ) → l.height ≡ 10 * p → j < l.i → get_or l.each j 0 ≡ gain_at l.airborne l.set l.entries p j)
+    × ((j : ℕ) → l.i ≤ j → get_or l.each j 0 ≡ 0)
+    × ((p : ℕ) → l.height ≡ 10 * p → l.total ≡ total_at (level_at l.airborne l.set l.entries) l.i p) × (l.total ≤ 5000 * l.i)
 
 abbrev pub decreases-loop-i : goal.decreases-loop-i
 decreases-loop-i l = l.bands - l.i
