@@ -5,8 +5,7 @@ use mathlib.Core.Bool.{Bool, true, false}
 use mathlib.Core.List.{List, [], ◌∷◌, ◌++◌}
 use Prim.Native.Nat.{ℕ, suc, ◌+◌, ◌/◌, ◌%◌, ◌≤◌, ◌<◌}
 use native.Mathlib.Omega.{arith}
-use lib.IntN.{ℤ, pos, negsuc, ◌+ℤ◌}
-use Rattle.laws.proofs.Ints.{plus, apart}
+use lib.IntN.{ℤ, pos, negsuc}
 use lib.ListN.{length, get_or, take, drop, set, length-append, length-drop}
 use lib.Seq.{length-take-le, take-suc, get_or-drop}
 use Rattle.laws.specs.Parts.{P, N}
@@ -17,7 +16,7 @@ use Rattle.rating.specs.declared.sheets.Sheet.{Sheet}
 use Rattle.answer.specs.Texts.{tab, hyphen, digit, others, line_text, decimal, number_text, term_text, set_text, sheet_fields, no_request_text}
 use Rattle.laws.specs.Lists.{front}
 use Rattle.answer.proofs.Decimals.{decimal-one, decimal-more}
-use Rattle.laws.proofs.Fronts.{front-more, front_length}
+use Rattle.laws.proofs.Fronts.{front-more}
 
 pub stored1 : (l : List ℕ) (x : ℕ) → 1 ≤ length l → set l 0 x ≡ front (x ∷ []) l
 stored1 l x h = front-more [] l 0 x refl h
@@ -102,9 +101,6 @@ module _ (s l : List ℕ) (key len : ℕ) (within : key + len ≤ length s) (roo
   part_length : (i : ℕ) → i ≤ len → length (take i (drop key s)) ≡ i
   part_length i h = length-take-le i (drop key s) (omega (arith, length-drop key s))
 
-  pub key-length : (i : ℕ) (out : List ℕ) → i ≤ len → out ≡ front (take i (drop key s)) l → length out ≡ length l
-  key-length i out h e = ap length e ∙ front_length (take i (drop key s)) l (omega (arith, part_length i h))
-
   pub key-turn : (i : ℕ) (out : List ℕ) → i < len → out ≡ front (take i (drop key s)) l
       → set out i (get_or s (key + i) 0) ≡ front (take (i + 1) (drop key s)) l
   key-turn i out h e =
@@ -116,9 +112,6 @@ module _ (s l : List ℕ) (key len : ℕ) (within : key + len ≤ length s) (roo
     where
       next : (i : ℕ) → suc i ≡ i + 1
       next i = omega arith
-
-pub succ-below : (z : ℤ) → 0 < N z → N z ≤ 2147483648 → (P (z +ℤ pos 1) ≡ 0) × (N (z +ℤ pos 1) + 1 ≡ N z)
-succ-below z h k = (omega (arith, plus z (pos 1), apart z, apart (z +ℤ pos 1)), omega (arith, plus z (pos 1), apart z, apart (z +ℤ pos 1)))
 
 pub below_length : (z : ℤ) → 0 < N z → length (number_text z) ≡ 1 + length (decimal (N z))
 below_length z h = ap length (number-below z h) ∙ omega arith

@@ -1,7 +1,7 @@
 -- A band's level as a natural: what it is by the parts of its value. Assumes nothing.
 use mathlib.Core.Path.{◌≡◌, sym, subst}
 use mathlib.Core.Bool.{Bool, true, false}
-use Prim.Native.Nat.{ℕ, ◌+◌, ◌≤◌, ◌<◌}
+use Prim.Native.Nat.{ℕ, ◌+◌, ◌≤◌}
 use native.Mathlib.Omega.{arith}
 use lib.Dec.{T}
 use lib.IntN.{ℤ, pos, ◌+ℤ◌, ◌-ℤ◌}
@@ -27,15 +27,6 @@ counted sign x e r h = record { low = (range-read x r).0; high = (range-read x r
 -- a value in range, read out of a lent array
 pub read : (x : ℤ) → in_range x ≡ true → to_z w32 (of_z w32 x) ≡ x
 read x r = near x (omega (arith, range-read x r)) (omega (arith, range-read x r))
-
--- what is asked where the sign is known, and what is given
-pub up-asked : (sign : Bool) (z : ℤ) (e : ℕ) → sign ≡ true → Countable sign z e → (N z ≤ e) × (P z + e < 2147483648)
-up-asked true z e p h = h
-up-asked false z e p h = absurd (subst T (sym p) tt)
-
-pub down-asked : (sign : Bool) (z : ℤ) (e : ℕ) → sign ≡ false → Countable sign z e → (P z ≤ e) × (N z + e < 2147483648)
-down-asked true z e p h = absurd (subst T p tt)
-down-asked false z e p h = h
 
 pub up_is : (sign : Bool) (z : ℤ) (e r : ℕ) → sign ≡ true → Countable sign z e → r + N z ≡ e + P z → r ≡ level_by sign z e
 unfolding level_by

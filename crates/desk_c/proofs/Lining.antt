@@ -3,7 +3,7 @@
 use mathlib.Core.Path.{◌≡◌, refl, sym, ◌∙◌, ap, ap₂, subst}
 use mathlib.Core.Bool.{Bool, true, false, cond}
 use mathlib.Core.List.{List, [], ◌∷◌}
-use Prim.Native.Nat.{ℕ, zero, suc, ◌≤◌, ◌<◌}
+use Prim.Native.Nat.{ℕ, ◌≤◌, ◌<◌}
 use native.Mathlib.Omega.{arith}
 use borrow.Author.Tests.{le-leb, lt-leb}
 use lib.ListN.{length, set}
@@ -22,10 +22,6 @@ use Rattle.quantity.specs.Answers.Answer.{refused, numbers}
 use Rattle.door.proofs.Fronts.{written_none, written-more, written_all, stored}
 use Rattle.desk_c.specs.Lines.{line_answer, line_held, is_set, block_numbers, block_by, block_answer, block_held}
 use Rattle.laws.specs.Extremes.{one_if}
-
-pub is-set : (n : ℕ) → (n ≡ 0 → ⊥) → true ≡ is_set n
-is-set zero h = absurd (h refl)
-is-set (suc n) h = refl
 
 -- numbers that have no place
 no_place : (xs before : List ℕ) → length before < length xs

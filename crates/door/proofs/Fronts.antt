@@ -5,7 +5,7 @@ use mathlib.Core.List.{List, [], ◌∷◌}
 use Prim.Native.Nat.{ℕ, ◌+◌, ◌≤◌, ◌<◌}
 use native.Mathlib.Omega.{arith}
 use native.Mathlib.Numerals.{add-one}
-use borrow.Author.Tests.{le-leb, lt-leb}
+use borrow.Author.Tests.{le-leb}
 use lib.ListN.{length, get_or, take, set}
 use lib.Seq.{take-suc, length-take-le}
 use Rattle.door.specs.Answers.{returned, held}
@@ -46,13 +46,6 @@ module _ {A : Type 0} (d : A) where
       let e : i ≡ n = omega (arith, w.within) in
       let fits = le-leb (length (take n answer)) (length before) (omega (arith, length-take-le n answer h)) in
       (rw fits refl, w.front-is ∙ ap (λ (k : ℕ). front (take k answer) before) e ∙ rw fits refl)
-
-  -- there is no room
-  pub written-not : (answer : List A) (n : ℕ) (before : List A) → n ≤ length answer → length before < n
-      → (10 ≡ returned (numbers (take n answer)) (length before)) × (before ≡ held (numbers (take n answer)) before)
-  written-not answer n before h r =
-      let short = lt-leb (length (take n answer)) (length before) (omega (arith, length-take-le n answer h)) in
-      (rw short refl, rw short refl)
 
   -- an answer of one number, stored
   pub stored : (before : List A) (v : A) → 1 ≤ length before

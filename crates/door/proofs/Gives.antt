@@ -22,7 +22,7 @@ use Rattle.quantity.specs.Answers.{Answer, flag}
 use Rattle.door.specs.Answers.{returned, held}
 use Rattle.quantity.specs.Answers.Answer.{refused, numbers}
 use Rattle.intake.specs.Taken.{taken_answer}
-use Rattle.rating.specs.Sheets.{term_of, term_flag, sheet_numbers, rated_answer}
+use Rattle.rating.specs.Sheets.{sheet_numbers, rated_answer}
 use Rattle.products.specs.Covers.{improvement_answer}
 use Rattle.products.specs.Grades.{graded_answer}
 use Rattle.door.specs.Given.{level_answer, Fitting, GradeFits}
@@ -46,12 +46,6 @@ taken-given t v limit x y e p q =
 -- a value alone
 pub level-given : (t : Taken) (v : Tenths) (limit : Bool) (x : ℤ) → t ≡ taken.Value v limit → x ≡ v.0 → numbers (x ∷ []) ≡ level_answer t
 level-given t v limit x e p = ap (λ (z : ℤ). numbers (z ∷ [])) p ∙ ap level_answer (sym e)
-
--- a sheet
-pub sheet-given : (s : Sheet) (a b c d e f : ℤ) → a ≡ s.rating.0 → b ≡ s.first.0 → c ≡ term_of s.second
-    → d ≡ term_flag s.second → e ≡ pos s.shifts → f ≡ flag s.limit
-    → a ∷ b ∷ c ∷ d ∷ e ∷ f ∷ [] ≡ sheet_numbers s
-sheet-given s a b c d e f i j k l m n = cc
 
 pub rated-given : (t : Rated) (s : Sheet) (l : List ℤ) → t ≡ rated.Rating s → l ≡ sheet_numbers s → numbers l ≡ rated_answer t
 rated-given t s l h e = ap numbers e ∙ ap rated_answer (sym h)

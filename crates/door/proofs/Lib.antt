@@ -1,5 +1,4 @@
 -- Laws of numbers, lists and answers for the C door.
-pub mod Doors
 pub mod Fronts
 pub mod Listing
 pub mod Gives

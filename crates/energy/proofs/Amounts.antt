@@ -66,13 +66,6 @@ c-number B is-B d a b =
     number-within (10 ^ 1800) B is-B (10 ^ 9 - F d)
     (subst (λ (n : ℕ). Greatest (λ j. T (background_rule n j)) (c n)) e (c-greatest (d - 60) (omega arith)))
 
-small : ℕ → ℕ → Bool
-small i x = leb x 13
-
-pub background-small : (i : ℕ) → i < 90 → get_or backgrounds i 0 ≤ 13
-unfolding backgrounds small
-background-small i h = leb→le (get_or backgrounds i 0) 13 (at small backgrounds tt i h)
-
 -- ---- k: need i is 50 ^ 200 x 10 ^ (2 i), size t is t ^ 200 x 10 ^ 141
 abbrev pub need_k : ℕ → ℕ
 need_k i = 50 ^ 200 * 10 ^ (2 * i)

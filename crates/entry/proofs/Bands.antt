@@ -1,61 +1,27 @@
 -- Kinds and bands of entries: values one by one, marks, and what is kept of a set. Assumes nothing.
-use mathlib.Core.Path.{◌≡◌, refl, sym, ◌∙◌, ap}
-use mathlib.Core.Bool.{Bool, true, false, ◌&&◌}
+use mathlib.Core.Path.{◌≡◌, sym, ◌∙◌, ap}
+use mathlib.Core.Bool.{true, false, ◌&&◌}
 use mathlib.Core.List.{List}
-use Prim.Native.Nat.{ℕ, ◌%◌, ◌^◌, ◌≤◌, ◌<◌}
+use Prim.Native.Nat.{ℕ, ◌<◌}
 use native.Mathlib.Omega.{arith}
-use borrow.Author.Tests.{lt-ltb, le-ltb, le-leb, eqb-true, eq-eqb, ne_eqb}
+use borrow.Author.Tests.{le-leb, eqb-true, eq-eqb, ne_eqb}
 use lib.Dec.{eqb}
 use lib.IntN.{ℤ, pos, negsuc}
-use lib.Signed.{le_z, lt_z, mag}
+use lib.Signed.{le_z}
 use lib.ListN.{length, get_or}
-use mir.Syntax.{w32}
-use mir.Val.{to_z, of_z}
-use Rattle.laws.proofs.Tests.{sure, refuted, both, both-made, left-fails, right-fails, left-holds}
+use Rattle.laws.proofs.Tests.{both, both-made, left-fails, left-holds}
 use Rattle.laws.proofs.Ints.{ints, le_yes, eq-made}
 use Rattle.laws.specs.Lists.{listed}
 use Rattle.quantity.specs.declared.quantities.Tenths.{Tenths}
 use Rattle.quantity.specs.declared.quantities.BandSet.{BandSet}
-use Rattle.quantity.proofs.Rim.{back}
 use Rattle.laws.proofs.Ranges.{all-at, all_made}
 use Rattle.kinds.specs.declared.kinds.Kind.{Kind}
-use Rattle.kinds.specs.declared.kinds.Kind.TheVariants.{A3, A1, I3, I1}
 use Rattle.kinds.specs.Kinds.{bands_of, kind_of, kind_number}
 use Rattle.kinds.proofs.Numbered.{kind-of-number}
 use Rattle.entry.specs.declared.entries.Entry.{Entry}
 use Rattle.entry.specs.Entries.{value_of, marks_to, same_value, same_values, same_marks, bands_by, bands_in, same_bands, kept_value, Call, call_of, entry_of}
-use Rattle.quantity.specs.Quantities.{nought}
-
--- ---- values, by the tests of the code in order
-below : (x y : ℤ) → lt_z x y ≡ true → le_z y x ≡ false
-below x y e = refuted (le_z y x) (λ f. omega ints)
-
-above : (x y : ℤ) → lt_z x y ≡ false → le_z y x ≡ true
-above x y e = sure (le_z y x) (λ f. omega ints)
-
-module _ (x y : ℤ) (p : mag x < 2147483648) (q : mag y < 2147483648) where
-  pub value-below : lt_z (to_z w32 (of_z w32 x)) (to_z w32 (of_z w32 y)) ≡ true → false ≡ same_value x y
-  value-below e = right-fails (le_z x y) (below x y (rw (back x p, back y q) at e))
-
-  pub value-above : lt_z (to_z w32 (of_z w32 x)) (to_z w32 (of_z w32 y)) ≡ false → le_z (to_z w32 (of_z w32 x)) (to_z w32 (of_z w32 y)) ≡ same_value x y
-  value-above e =
-      rw (back x p, back y q)
-      (left_over (le_z x y) (above x y (rw (back x p, back y q) at e)))
-    where
-      left_over : (a : Bool) {b : Bool} → b ≡ true → a ≡ a && b
-      left_over true f = sym f
-      left_over false f = refl
 
 -- ---- marks and bands
-pub bands-most : {n : ℕ} (k : Kind) → n ≡ bands_of k → n ≤ 16
-bands-most A3 e = omega arith
-bands-most A1 e = omega arith
-bands-most I3 e = omega arith
-bands-most I1 e = omega arith
-
-pub marks-by : (marks : ℕ) {k m : Kind} → m ≡ k → marks % 2 ^ bands_of k ≡ marks_to (bands_of m) marks
-marks-by marks e = ap (λ (j : Kind). marks_to (bands_of j) marks) (sym e)
-
 -- how many bands an entry of the kind has
 pub bands-in : (n : ℕ) (k : Kind) → n ≡ kind_number k → bands_by (kind_of n) ≡ bands_of k
 bands-in n k e = ap (λ (m : ℕ). bands_by (kind_of m)) e ∙ ap bands_by (kind-of-number k)
@@ -122,14 +88,6 @@ bands-made e f o =
     (both-made (eq-eqb (marks_to (bands_in e) e.marks) (marks_to (bands_in e) f.marks) o.marks)
     (all_made (λ i. same_value (value_of e i) (value_of f i)) (bands_in e)
     (λ i p. ap (same_value (value_of e i)) (sym (o.values i p)) ∙ value-refl (value_of e i))))
-
--- ---- what is kept of a set
-module _ (s : BandSet) (n i : ℕ) where
-  pub kept-within : i < n → get_or s.values i nought ≡ kept_value s n i
-  kept-within h = rw (lt-ltb i n h)
-
-  pub kept-past : n ≤ i → nought ≡ kept_value s n i
-  kept-past h = rw (le-ltb i n h)
 
 -- the entry of a call, from its parts
 pub entry-made : (customer : ℕ) (text : List ℕ) (k : Kind) (s : BandSet) (price : ℕ) {key : List ℕ} {values : List Tenths} {n marks kind : ℕ}

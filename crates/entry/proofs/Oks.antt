@@ -1,8 +1,8 @@
 -- What makes an entry sound: each test of the code in order. Assumes nothing.
 use mathlib.Core.Path.{◌≡◌, refl, sym, ◌∙◌, ap}
 use mathlib.Core.Bool.{Bool, true, false, ◌&&◌}
-use Prim.Native.Nat.{ℕ, ◌≤◌, ◌<◌}
-use borrow.Author.Tests.{leb-true, le-leb, lt-leb, eq-eqb}
+use Prim.Native.Nat.{ℕ, ◌≤◌}
+use borrow.Author.Tests.{leb-true, eq-eqb}
 use lib.Dec.{leb}
 use Rattle.laws.proofs.Tests.{left-fails, right-fails, left-holds, both}
 use Rattle.quantity.specs.Keys.{key_shape}
@@ -34,12 +34,6 @@ pub ratable-as : (e : Entry) (k : Kind) (n : Named) (s : BandSet) (b : ℕ) → 
 ratable-as e k n s b p q c d = rw (c, d) (rated-as k (set_of k e) refl ∙ ap (λ (m : Named). ratable m e) (sym q ∙ p))
 
 module _ (e : Entry) where
-  pub keyed-long : 32 < e.length → false ≡ keyed e
-  keyed-long h = left-fails (key_shape (key_of e)) (lt-leb e.length 32 h)
-
-  pub keyed-by : e.length ≤ 32 → key_shape (key_of e) ≡ keyed e
-  keyed-by h = left-holds (key_shape (key_of e)) (le-leb e.length 32 h)
-
   pub ok-price : priced e.price.0 ≡ false → false ≡ entry_ok e
   unfolding entry_ok
   ok-price p = left-fails (ratable (kind_of e.kind) e && keyed e) p

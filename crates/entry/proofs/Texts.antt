@@ -2,13 +2,12 @@
 -- Assumes nothing.
 use mathlib.Core.Path.{◌≡◌, refl, sym, ◌∙◌, ap}
 use mathlib.Core.Bool.{Bool, true, false}
-use mathlib.Core.List.{List, map}
-use Prim.Native.Nat.{ℕ, ◌+◌, ◌≤◌, ◌<◌}
-use native.Mathlib.Omega.{arith}
+use mathlib.Core.List.{List}
+use Prim.Native.Nat.{ℕ, ◌+◌, ◌<◌}
 use borrow.Author.Tests.{eqb-true, eq-eqb, ne_eqb}
 use lib.Dec.{eqb}
-use lib.ListN.{length, get_or, length-map}
-use lib.Seq.{length-take-le, ext_get_or}
+use lib.ListN.{length, get_or}
+use lib.Seq.{ext_get_or}
 use Rattle.laws.proofs.Tests.{left-fails, right-fails, left-holds, both, both-made}
 use Rattle.laws.specs.Tests.{all_to}
 use Rattle.laws.proofs.Ranges.{all_more, all-fails, all-at, all_made}
@@ -52,14 +51,6 @@ text-refl s = both-made (eq-eqb (length s) (length s) refl) (all_made (λ i. eqb
 
 pub text-made : {s t : List ℕ} → s ≡ t → same_text s t ≡ true
 text-made {s} e = ap (same_text s) (sym e) ∙ text-refl s
-
--- ---- the key of an entry
-module _ (e : Entry) (g : length (map (λ (b : ℕ). b) e.key) ≡ 32) (h : e.length ≤ 32) where
-  pub key-room : e.length ≤ length e.key
-  key-room = omega (arith, g, length-map e.key (λ (b : ℕ). b))
-
-  pub key-length : e.length ≡ length (key_of e)
-  key-length = sym (length-take-le e.length e.key key-room)
 
 -- ---- one customer and key
 pub key-customer : (e f : Entry) → (e.customer ≡ f.customer → ⊥) → false ≡ same_key e f

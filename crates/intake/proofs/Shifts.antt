@@ -23,10 +23,6 @@ power p h g = (pow_mono {i = 16} {j = p} h, pow_mono {i = p} {j = 31} g)
 twice_power : (p : ℕ) → 2 ^ (p + 1) ≡ 2 * 2 ^ p
 twice_power p = pow-add 2 p 1 ∙ mul_comm (2 ^ p) 2
 
-pub held_small : (s : Bool) → held_of s ≤ 1
-held_small true = omega arith
-held_small false = omega arith
-
 pub shifted : (s : Bool) (n p h : ℕ) → p ≤ 31 → h ≡ held_of s → (2 * n + 1 * 2 ^ p % 18446744073709551616 - h) / 2 ^ (p + 1) ≡ size_of s n (2 ^ p)
 unfolding size_of
 shifted s n p h k e = rw (one_shifted p (omega arith), twice_power p, e)

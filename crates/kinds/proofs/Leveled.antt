@@ -3,7 +3,7 @@ use mathlib.Core.Path.{◌≡◌, sym, subst}
 use mathlib.Core.List.{List}
 use Prim.Native.Nat.{ℕ, ◌≤◌, ◌<◌}
 use lib.IntN.{ℤ}
-use Rattle.curve.specs.Levels.{at, Ranged, Entries, Levels}
+use Rattle.curve.specs.Levels.{at, Ranged, Entries}
 use Rattle.curve.proofs.Searched.{count_most}
 use Rattle.kinds.specs.declared.kinds.Kind.{Kind}
 use Rattle.kinds.specs.Kinds.{airborne, bands_of}
@@ -17,8 +17,3 @@ module _ (E : Kind → List ℕ) {kind k : Kind} (told : kind ≡ k) {entries : 
     count_most (count-of k),
     (subst (λ (j : Kind). Ranged values (bands_of j)) told ranged, subst (λ (l : List ℕ). (i : ℕ) → i < 16 → Entries (airborne k) (at l i)) (sym own) (fits k)),
   )
-
-  pub given : {value : ℕ → ℤ} {r : List ℕ} → Levels (airborne k) value entries (bands_of k) r → Levels (airborne kind) value (E kind) (bands_of kind) r
-  given {value} {r} w =
-      subst (λ (j : Kind). Levels (airborne j) value (E j) (bands_of j) r) (sym told)
-      (subst (λ (l : List ℕ). Levels (airborne k) value l (bands_of k) r) own w)

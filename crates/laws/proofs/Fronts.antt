@@ -29,9 +29,6 @@ module _ {A : Type 0} where
     same : length xs ≡ length l
     same = ap length e ∙ front_length t l h
 
-    pub tail_within : a ≤ length xs
-    tail_within = omega (arith, same)
-
     pub tail-is : mid_of a (length xs - a) xs ≡ drop a l
     tail-is =
         ap (λ (r : List A). take (length xs - a) (drop a r)) e
@@ -56,10 +53,6 @@ module _ {A : Type 0} where
         ∙ ap (λ (r : List A). t ++ r) (append-nil ys ∙ y ∙ ap (front u) tail-is)
         ∙ ap (λ (r : List A). t ++ (u ++ r)) (drop-drop (length u) a l ∙ ap (λ (n : ℕ). drop n l) (ap (λ (n : ℕ). n + length u) f ∙ sym (length-append t u)))
         ∙ sym (append_assoc t u (drop (length (t ++ u)) l))
-
-    pub tail-same : (u : List A) {ys : List A} → ys ≡ front u (mid_of a (length xs - a) xs) → length t + length u ≤ length l
-        → length (put_mid a (length xs - a) xs ys) ≡ length l
-    tail-same u y k = ap length (tail-home u y) ∙ front_length (t ++ u) l (omega (arith, length-append t u))
 
   -- a list is written piece by piece: `rest` of it is still to come
   pub record Writing (whole rest l : List A) (count : ℕ) (out : List A) : Type 0 where

@@ -157,11 +157,6 @@ lt-false x y h = go (lt_z x y) refl
     go true e = absurd (omega (arith, lt_yes x y e))
     go false e = refl
 
--- a number of 32 bits with a sign, to and from its parts
-pub fits_read : {z : ℤ} → SFits w32 z → (P z < 2147483648) × (N z ≤ 2147483648)
-fits_read {z = pos n} f = omega (arith, f.sfits)
-fits_read {z = negsuc n} f = omega (arith, f.sfits)
-
 mag-below : (z : ℤ) → P z < 2147483648 → N z ≤ 2147483648 → mag z < 2147483648
 mag-below (pos n) p q = omega arith
 mag-below (negsuc n) p q = omega arith

@@ -7,7 +7,7 @@ use Prim.Native.Nat.{ℕ, ◌-◌, ◌≤◌, ◌<◌}
 use native.Mathlib.Nat.{le_of_lt}
 use native.Mathlib.Omega.{arith}
 use borrow.Author.Tests.{le-leb, lt-leb}
-use lib.Dec.{T, eqb, leb}
+use lib.Dec.{eqb, leb}
 use lib.IntN.{ℤ, pos, negsuc}
 use lib.ListN.{length}
 use lib.Signed.{lt_z}
@@ -54,14 +54,6 @@ unfolding in_targets
 target-in t e d = rw (le-true (negsuc 99) t (lt_no t (negsuc 99) e), le-true t (pos 200) (lt_no (pos 200) t d))
 
 -- ---- better, where the sign is known
-pub better-up : (sign : Bool) (t r : ℤ) → sign ≡ true → lt_z r t ≡ better_by sign t r
-better-up true t r e = refl
-better-up false t r e = absurd (subst T (sym e) tt)
-
-pub better-down : (sign : Bool) (t r : ℤ) → sign ≡ false → lt_z t r ≡ better_by sign t r
-better-down true t r e = absurd (subst T e tt)
-better-down false t r e = refl
-
 -- ---- the ways out once the set is rated
 module _ (k : Kind) (s : BandSet) (t r : ℤ) (before : List ℕ) where
   abbrev x : ℕ → ℤ

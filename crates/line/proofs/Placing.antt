@@ -20,7 +20,7 @@ use Rattle.laws.specs.Lists.{front}
 use Rattle.request.specs.Reading.{Asked, request_at, Request, whole, request_of}
 use Rattle.request.specs.Reading.Asked.{asked}
 use Rattle.request.specs.Reading.Request.{request}
-use Rattle.reply.specs.Answers.{judged, answer_to, answer_of, no_reply, reply_to, reply_at, reply_text, Keyed}
+use Rattle.reply.specs.Answers.{judged, answer_to, answer_of, no_reply, reply_to, reply_at, reply_text}
 use Rattle.line.specs.Answers.{fits_at, placed, wrote_of}
 use Rattle.request.proofs.Wholes.{RequestAt, RequestGood, request-ok, text-length}
 use Rattle.reply.proofs.Replies.{reply-none}
@@ -100,6 +100,3 @@ module _ (line : List ℕ) (r : Reply) (e : r ≡ reply_at line 0) where
 
   pub line_other : (r.next ≡ length line → ⊥) → reply_text line no_reply ≡ answer_of line
   line_other f = by-reply false (ne_eqb r.next (length line) f)
-
-pub none-keyed : (s : List ℕ) → Keyed s no_reply
-none-keyed s = record { within = omega arith; most = omega arith }

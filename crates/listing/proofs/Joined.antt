@@ -4,13 +4,8 @@ use Rattle.laws.proofs.Bits.{one_bit}
 use mathlib.Core.Path.{◌≡◌, ap}
 use mathlib.Core.List.{◌++◌}
 use Prim.Native.Nat.{ℕ, ◌+◌, ◌*◌, ◌%◌, ◌^◌, ◌≤◌, ◌<◌, min}
-use native.Mathlib.Omega.{arith}
-use lib.Pow.{pow_mono}
 use Rattle.sets.specs.Gains.{joined_by, PartOf}
 use Rattle.sets.proofs.Joining.{part-joined, joined_step}
-
-pub mask_fits : (m i : ℕ) → i < 16 → m < 2 ^ i → m + 1 * 2 ^ i % 65536 < 65536
-mask_fits m i h k = let top : 2 ^ i ≤ 32768 = pow_mono {i = i} {j = 15} (omega arith) in omega (arith, one_bit 16 i h)
 
 pub mask_is : (m i : ℕ) → i < 16 → m + 1 * 2 ^ i % 65536 ≡ m + 2 ^ i
 mask_is m i h = ap (λ (b : ℕ). m + b) (one_bit 16 i h)

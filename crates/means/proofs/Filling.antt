@@ -8,7 +8,7 @@ use native.Mathlib.Decide.{dec_lt}
 use native.Mathlib.Omega.{arith}
 use borrow.Author.Tests.{lt-ltb, le-ltb}
 use lib.Dec.{ltb}
-use lib.ListN.{length, get_or, set, replicate, get_or-replicate, length-replicate, get_or-eq_default}
+use lib.ListN.{get_or, set, replicate, get_or-replicate, length-replicate, get_or-eq_default}
 use lib.Seq.{get_or-set_other, ext_get_or}
 use Rattle.laws.specs.Lists.{listed}
 use Rattle.laws.proofs.Lists.{Agreed, agreed-none, agreed-set, length-listed, listed_at}
@@ -50,12 +50,3 @@ filled-list f k out n w =
     at : (i : ℕ) → Dec (i < n) → get_or out i nought ≡ cond (ltb i n) (f i) nought
     at i (yes p) = rw (lt-ltb i n p) (w.done.same i p)
     at i (no p) = rw (le-ltb i n (omega arith)) (w.rest i (omega arith))
-
--- a list that is a shorter one with zeros after it
-pub filled-same : (values : List Tenths) (k : ℕ) (out : List Tenths) (n : ℕ) → length values ≡ n
-    → Filled (λ i. get_or values i nought) k out n → (i : ℕ) → get_or out i nought ≡ get_or values i nought
-filled-same values k out n e w i = go (dec_lt i n)
-  where
-    go : Dec (i < n) → get_or out i nought ≡ get_or values i nought
-    go (yes p) = w.done.same i p
-    go (no p) = w.rest i (omega arith) ∙ sym (get_or-eq_default values nought {n = i} (omega arith))

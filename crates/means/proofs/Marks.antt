@@ -1,6 +1,6 @@
 -- Marks as bits: one mark of three, what it adds to the number, and that bit j of the number is mark j. Assumes nothing.
 use mathlib.Core.Path.{◌≡◌, refl, sym, ◌∙◌, ap}
-use mathlib.Core.Bool.{Bool, true, false, ◌||◌}
+use mathlib.Core.Bool.{Bool, true, false}
 use Prim.Native.Nat.{ℕ, zero, suc, ◌+◌, ◌*◌, ◌-◌, ◌/◌, ◌%◌, ◌^◌, ◌≤◌, ◌<◌}
 use native.Mathlib.Nat.{add-zero, add_comm, two-pow-succ, lt_irrefl, mod-eq_of_lt, add-mul-mod_self_right}
 use native.Mathlib.Numerals.{add-one}
@@ -13,15 +13,6 @@ use Rattle.measurement.specs.Lists.{weight_of}
 use Rattle.laws.specs.Tests.{bit}
 use Rattle.means.specs.Sets.{marks_to}
 use Rattle.measurement.proofs.Runs.{weight-most}
-
-pub first-marked : (a b c : Bool) → a ≡ true → true ≡ a || (b || c)
-first-marked a b c e = rw e refl
-
-pub second-marked : (a b c : Bool) → a ≡ false → b ≡ true → true ≡ a || (b || c)
-second-marked a b c e f = rw (e, f) refl
-
-pub third-marked : (a b c r : Bool) → a ≡ false → b ≡ false → r ≡ c → r ≡ a || (b || c)
-third-marked a b c r e f g = rw (e, f) g
 
 -- a mark above bit j leaves the remainder by 2 ^ j
 raised : (m : ℕ) (b : Bool) (n j : ℕ) → j ≤ n → (m + weight_of b n) % 2 ^ j ≡ m % 2 ^ j

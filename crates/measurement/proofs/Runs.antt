@@ -2,7 +2,7 @@
 -- the refusal of every longer list. Assumes nothing.
 use mathlib.Core.Path.{◌≡◌, refl, sym, ◌∙◌, ap}
 use mathlib.Core.Bool.{Bool, true, false}
-use mathlib.Core.List.{List, [], ◌∷◌, ◌++◌}
+use mathlib.Core.List.{List}
 use Prim.Native.Nat.{ℕ, zero, suc, ◌+◌, ◌-◌, ◌^◌, ◌≤◌, ◌<◌}
 use native.Mathlib.Nat.{zero-add, two-pow-succ}
 use native.Mathlib.Numerals.{add-one}
@@ -10,7 +10,7 @@ use native.Mathlib.Decide.{dec_lt, ℕ_discrete}
 use native.Mathlib.Omega.{arith}
 use borrow.Author.Tests.{lt-ltb, le-ltb, eq-eqb, ne_eqb}
 use lib.ListN.{length, get_or, set, take, replicate, length-set, length-take}
-use lib.Seq.{get_or-set_same, get_or-set_other, get_or-take, ext_get_or, take-suc, take-suc-set, take_all}
+use lib.Seq.{get_or-set_same, get_or-set_other, get_or-take, ext_get_or}
 use lib.Pow.{pow_mono}
 use Rattle.laws.specs.Lists.{listed}
 use Rattle.laws.proofs.Lists.{length-listed, listed_at}
@@ -182,27 +182,6 @@ pub record Copied (values out : List Tenths) (i : ℕ) : Type 0 where
   pub within : i ≤ 16
   pub whole : length out ≡ 16
   pub same : take i out ≡ take i values
-
-pub copied_more : (values out : List Tenths) (i : ℕ) → length values ≡ 48 → i < 16 → Copied values out i
-    → Copied values (set out i (get_or values i nought)) (i + 1)
-copied_more values out i l h c = record {
-  within = omega arith;
-  whole = length-set out i (get_or values i nought) ∙ c.whole;
-  same =
-      ap (λ (k : ℕ). take k (set out i (get_or values i nought))) (add-one i)
-      ∙ take-suc-set out i (get_or values i nought) (omega (arith, c.whole))
-      ∙ ap (λ (t : List Tenths). t ++ (get_or values i nought ∷ [])) c.same
-      ∙ sym (take-suc values i nought (omega arith))
-      ∙ ap (λ (k : ℕ). take k values) (sym (add-one i));
-}
-
-pub copied_all : (values out : List Tenths) (i : ℕ) → 16 ≤ i → Copied values out i → out ≡ take 16 values
-copied_all values out i h c =
-    let e : i ≡ 16 = omega (arith, c.within) in
-    sym (take_all 16 out (omega (arith, c.whole)))
-    ∙ ap (λ (k : ℕ). take k out) (sym e)
-    ∙ c.same
-    ∙ ap (λ (k : ℕ). take k values) e
 
 -- ---- a band list, from the outcome of its readings
 

@@ -16,13 +16,6 @@ bits z = to_z w32 (of_z w32 z)
 small : (z : ℤ) → Small z → bits z ≡ z
 small z h = near z (omega arith) (omega arith)
 
-pub sum_fits : (a b : ℤ) → Small a → Small b → SFits w32 (bits a +ℤ bits b)
-sum_fits a b h k =
-    rw (small a h, small b k) (fits-made (omega (arith, plus a b, apart (a +ℤ b))) (omega (arith, plus a b, apart (a +ℤ b))))
-
-pub sum_is : (a b : ℤ) → Small a → Small b → bits (bits a +ℤ bits b) ≡ a +ℤ b
-sum_is a b h k = to_z-of_z (sum_fits a b h k) ∙ rw (small a h, small b k)
-
 -- the numbers of a cover
 pub rating-fits : (r : ℤ) → Small r → SFits w32 (pos 78 -ℤ bits r)
 rating-fits r h =

@@ -3,7 +3,7 @@
 use mathlib.Core.Path.{◌≡◌, sym, ◌∙◌, ap}
 use mathlib.Core.Bool.{true, false, not}
 use mathlib.Core.List.{List}
-use Prim.Native.Nat.{ℕ, ◌+◌, ◌%◌, ◌≤◌, ◌<◌}
+use Prim.Native.Nat.{ℕ, ◌+◌, ◌%◌, ◌<◌}
 use native.Mathlib.Decide.{ℕ_discrete, dec_lt}
 use native.Mathlib.Omega.{arith}
 use lib.ListN.{length, get_or, set, length-set}
@@ -32,18 +32,6 @@ module _ (r : Register) (e : Entry) where
   -- by its word
   pub missed-word : (i v w : ℕ) → v ≡ word_of (entry_at r i) → w ≡ word_of e → (v ≡ w → ⊥) → Missed r e i → Missed r e (i + 1)
   missed-word i v w a b f m = missed_more i m (word-apart (entry_at r i) e (λ s. f (a ∙ s ∙ sym b)))
-
-  pub place_found : (n i : ℕ) → i < n → same_key (entry_at r i) e ≡ true → PlaceOf r n e i
-  place_found n i h s = record { within = omega arith; found = λ g. s; missed = λ g. absurd (omega arith) }
-
-  pub place-missed : (n i : ℕ) → n ≤ i → i ≤ n → Missed r e i → PlaceOf r n e n
-  place-missed n i h g m =
-      let s : i ≡ n = omega arith in
-      record {
-        within = omega arith;
-        found = λ k. absurd (omega arith);
-        missed = λ k. ap (λ (j : ℕ). any_to (λ l. same_key (entry_at r l) e) j) (sym s) ∙ m;
-      }
 
 -- ---- no customer and key twice
 -- none of the first i entries is repeated, and the remainders of their words were met

@@ -52,14 +52,8 @@ module _ (kind : Kind) (r : Gathered) where
   abbrev sheet : Rated
   sheet = rated_of kind (record { values = r.values; marks = r.marks; len = r.count })
 
-  pub judge-count : (n : ℕ) → n ≡ bands_of kind → (r.count ≡ n → ⊥) → Refused BandCount ≡ judged_in kind r
-  judge-count n e h = rw (ne_eqb r.count (bands_of kind) (λ k. h (k ∙ sym e)))
-
   by-fault : (n : ℕ) (x : Rated) → n ≡ bands_of kind → r.count ≡ n → x ≡ judged_by r.fault sheet → x ≡ judged_in kind r
   by-fault n x e h f = rw (eq-eqb r.count (bands_of kind) (h ∙ e)) f
-
-  pub judge-refused : (n : ℕ) (q : Refusal) → n ≡ bands_of kind → r.count ≡ n → r.fault ≡ outcome.Refused q → Refused q ≡ judged_in kind r
-  judge-refused n q e h f = by-fault n (Refused q) e h (rw f)
 
   pub judge-sheet : (n : ℕ) (x : Rated) → n ≡ bands_of kind → r.count ≡ n → r.fault ≡ outcome.Accepted → x ≡ sheet → x ≡ judged_in kind r
   judge-sheet n x e h f g = by-fault n x e h (rw f g)

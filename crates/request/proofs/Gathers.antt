@@ -286,7 +286,3 @@ or-refused o p r e = ap (or_else o) (sym e)
 
 pub or-accepted : (o p : Outcome) → p ≡ Accepted → o ≡ or_else o p
 or-accepted o p e = sym (ap (or_else o) e ∙ or-none o)
-
-pub weight-at-most : (t : Bool) (w v : ℕ) → v ≡ weight_by t w → v ≤ w
-weight-at-most true w v e = omega arith
-weight-at-most false w v e = omega arith

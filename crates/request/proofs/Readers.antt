@@ -338,14 +338,5 @@ span-turn s at n e f =
     regroup : (n k : ℕ) → n + suc k ≡ n + 1 + k
     regroup n k = omega arith
 
-pub span-start : (s : List ℕ) (at : ℕ) → key_span (drop at s) ≡ 0 + key_span (drop (at + 0) s)
-span-start s at = ap (λ (k : ℕ). key_span (drop k s)) (index at) ∙ first (key_span (drop (at + 0) s))
-  where
-    index : (at : ℕ) → at ≡ at + 0
-    index at = omega arith
-
-    first : (k : ℕ) → k ≡ 0 + k
-    first k = omega arith
-
 pub span-out : (s : List ℕ) (at n : ℕ) → key_span (drop at s) ≡ n + key_span (drop (at + n) s) → key_byte (byte_at s (at + n)) ≡ false → n ≡ key_span (drop at s)
 span-out s at n e f = omega (arith, span-end s (at + n) f)

@@ -76,8 +76,5 @@ pub owed-fits : (r : Register) (customer : ℕ) (o : Owed) → o ≡ owed_of r c
 owed-fits r customer o e = subst OwedFits (sym e) (owed-by OwedFits (λ f. tt) (λ t h. h) r customer)
 
 module _ (o : Owed) (total : Fen) (e : o ≡ owed.Total total) where
-  pub owed-fitting : OwedFits o → total.0 ≤ 512000000
-  owed-fitting h = subst OwedFits e h
-
   pub total-given : (v : ℤ) → v ≡ pos total.0 → numbers (v ∷ []) ≡ owed_answer o
   total-given v q = ap (λ (z : ℤ). numbers (z ∷ [])) q ∙ ap owed_answer (sym e)

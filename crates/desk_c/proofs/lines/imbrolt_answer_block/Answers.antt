@@ -1,14 +1,10 @@
 -- `desk_c::lines::imbrolt_answer_block` meets its contract. Assumes nothing.
 use native.Mathlib.Omega.{arith}
-use lib.ListN.{length-set}
 use Rattle.desk_c.proofs.Lining.{block-no-place, block-done}
 use Rattle.desk_c.proofs.lines.imbrolt_answer_block.Goals as goal
 
 pub returns-then-progress-lt3 : goal.returns-then-progress-lt3
 returns-then-progress-lt3 c = let a = block-no-place _ _ _ _ _ c.if-progress-lt3.true in record { value = a.0; out_after = a.1.0; progress_after = a.1.1 }
-
-pub bounds-progress-1 : goal.bounds-progress-1
-bounds-progress-1 c = simp length-set (omega arith)
 
 pub returns : goal.returns
 returns c =

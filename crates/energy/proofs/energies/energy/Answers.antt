@@ -8,7 +8,7 @@ use Rattle.energy.specs.Energies.{F}
 use Rattle.energy.specs.Tabled.{Scaled}
 use Rattle.energy.proofs.Scaled.{F-above, F-most, F-hundreds}
 use Rattle.energy.proofs.energies.energy.Goals as goal
-use Rattle.energy.proofs.energies.energy.Goals.{Then-many, Else-many}
+use Rattle.energy.proofs.energies.energy.Goals.{Else-many}
 
 pub returns-then-d-gt900 : goal.returns-then-d-gt900
 returns-then-d-gt900 c = F-above c.args.d c.if-d-gt900.true

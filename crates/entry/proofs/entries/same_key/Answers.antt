@@ -3,7 +3,6 @@ use mathlib.Core.Path.{◌∙◌}
 use native.Mathlib.Omega.{arith}
 use Rattle.entry.proofs.Texts.{key-customer, key-text}
 use Rattle.entry.proofs.entries.same_key.Goals as goal
-use Rattle.entry.proofs.entries.same_key.Goals.{Start}
 
 pub returns-then-e-f : goal.returns-then-e-f
 returns-then-e-f c = key-customer c.args.e c.args.f (omega arith)

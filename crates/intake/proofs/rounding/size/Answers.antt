@@ -2,7 +2,6 @@
 use native.Mathlib.Omega.{arith}
 use Rattle.intake.proofs.Shifts.{shifted}
 use Rattle.intake.proofs.rounding.size.Goals as goal
-use Rattle.intake.proofs.rounding.size.Goals.{Start}
 
 pub returns : goal.returns
 returns c = shifted c.args.negative _ c.args.places _ (omega arith) c.held.ensures

@@ -8,7 +8,7 @@ use Rattle.means.specs.Sets.{mark_at}
 use Rattle.means.proofs.Marks.{marks-fit}
 use Rattle.means.proofs.Thirds.{made_none, made_more, made_all}
 use Rattle.means.proofs.sets.means.Goals as goal
-use Rattle.means.proofs.sets.means.Goals.{In-loop-j, After-weight-limits}
+use Rattle.means.proofs.sets.means.Goals.{After-weight-limits}
 
 pub loop-j-init : goal.loop-j-init
 loop-j-init c = made_none _ _ _ _ _

@@ -1,5 +1,5 @@
 -- `measurement::lists::take_list` meets its contract: the count, then what became of the readings. Assumes nothing.
-use mathlib.Core.Path.{◌≡◌, ◌∙◌}
+use mathlib.Core.Path.{◌∙◌}
 use native.Mathlib.Omega.{arith}
 use Rattle.measurement.proofs.Runs.{list_count, list-refused, list-marks, list-accepted}
 use Rattle.measurement.proofs.lists.take_list.Goals as goal

@@ -10,7 +10,7 @@ use Rattle.kinds.specs.Kinds.{bands_of}
 use Rattle.kinds.specs.Numbers.{start_add}
 use Rattle.kinds.proofs.Facts.{count-of, add_small}
 use Rattle.rating.proofs.sheets.sought.Goals as goal
-use Rattle.rating.proofs.sheets.sought.Goals.{Start, After-sum, After-start_of-start}
+use Rattle.rating.proofs.sheets.sought.Goals.{Start, After-sum}
 
 most : (s : Start) → s.args.bands ≤ 16
 most s = rw s.requires.bands_of_kind (count_most (count-of s.args.kind))

@@ -4,7 +4,7 @@ use native.Mathlib.Omega.{arith}
 use Rattle.curve.specs.Levels.{at}
 use Rattle.curve.proofs.Searched.{count_most, least-below}
 use Rattle.rating.proofs.sheets.weigh.Goals as goal
-use Rattle.rating.proofs.sheets.weigh.Goals.{After-least-least, After-energies-sum}
+use Rattle.rating.proofs.sheets.weigh.Goals.{After-least-least}
 
 lowest : (c : After-least-least) (i : ℕ) → i < c.args.bands → c.least-least.result ≤ at c.args.levels.now i
 lowest c i h = omega (arith, c.least-least.ensures, least-below (at c.args.levels.now) c.args.bands i h)
