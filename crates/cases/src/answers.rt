@@ -1,5 +1,4 @@
 // The calls, by the number that a case begins with, and their answers as text.
-use libc::STDOUT_FILENO;
 use vectors::lists::{length_of, list_of};
 use vectors::numbers::{Case, NO_CASE, float, natural, signed};
 use vectors::places::{NO_SET, UNWRITTEN, print_lent};
@@ -70,7 +69,7 @@ fn call(
 
 // A line with what the call of a case returns and what it wrote, and a mark at its end where the library says something else when
 // it is asked with what lies past the stated length; `?` for what is no case.
-pub fn answer(case: Case) {
+pub fn answer(rt: &impl Print, case: Case) {
     let list = list_of(case);
     let mut sets = [NO_SET; 800];
     let mut out = [UNWRITTEN; 17];
@@ -79,13 +78,13 @@ pub fn answer(case: Case) {
     let floats = list.floats;
     let returned = call(case, &tenths, &marks, &floats, &mut sets, &mut out);
     if returned == NO_CASE {
-        io::write_all(STDOUT_FILENO, b"?\n");
+        let _ = println!(rt; "?");
         return;
     }
-    io::print_decimal(STDOUT_FILENO, returned as u64);
-    print_lent(&out, &sets);
+    let _ = print!(rt; "{returned}");
+    print_lent(rt, &out, &sets);
     if !agrees(case, list, returned, out[0]) {
-        io::write_all(STDOUT_FILENO, b" !");
+        let _ = print!(rt; " !");
     }
-    io::write_all(STDOUT_FILENO, b"\n");
+    let _ = println!(rt);
 }

@@ -5,18 +5,18 @@
 
 mod answers;
 
-use libc::STDIN_FILENO;
+use std::io::Read;
 use vectors::numbers;
 use vectors::numbers::Case;
 
 // Feeds what was read, and answers each line that it ends.
-fn take(case: Case, bytes: &[u8]) -> Case {
+fn take(rt: &impl Print, case: Case, bytes: &[u8]) -> Case {
     let mut now = case;
     let mut i = 0;
     while i < bytes.len() {
         let b = bytes[i];
         if b == b'\n' {
-            answers::answer(now);
+            answers::answer(rt, now);
             now = numbers::empty();
         } else {
             now = numbers::fed(now, b);
@@ -27,17 +27,18 @@ fn take(case: Case, bytes: &[u8]) -> Case {
 }
 
 // A proved loop has to end, so this one counts its reads down from a number that no run uses up.
-fn main() {
-    let mut buf = io::large_buffer();
+fn main(rt: HostRuntime) {
+    let mut buf = [0; 65536];
     let mut case = numbers::empty();
     let mut turns = u32::MAX;
     while turns > 0 {
-        let got = libc::read(STDIN_FILENO, &mut buf);
-        if got <= 0 {
+        let Ok(n) = rt.stdin().read(&mut buf) else {
+            return;
+        };
+        if n == 0 {
             return;
         }
-        let n = io::count(got, &buf);
-        case = take(case, &buf[..n]);
+        case = take(&rt, case, &buf[..n]);
         turns -= 1;
     }
 }

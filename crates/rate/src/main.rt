@@ -3,11 +3,15 @@
 // Nothing but moving bytes around the block call: what has been read is answered and written before the next read waits.
 #![tactic(auto)]
 
-ghost use Rattle.std.specs.Prelude.{false, ◌++◌, ◌≡◌, ◌-◌, ◌≤◌, length, take, drop};
+ghost use Rattle.std.specs.Prelude.{false, ◌++◌, ◌≡◌, ◌-◌, ◌≤◌, length, take, drop, OnTrue};
+ghost use Rattle.std.specs.Io.KnownBytes.{Appends};
 ghost use Rattle.rate.specs.Waits.{Waits, block_at, first_state, Called, Refilled, Advanced, Ran};
 
-use libc::{STDERR_FILENO, STDIN_FILENO, STDOUT_FILENO};
 use line::answer_block;
+use std::io::{Read, Write};
+
+// How many bytes each of the two buffers has.
+const ROOM: usize = 65536;
 
 // What goes on from turn to turn: the bytes from `start` to `end` of the buffer wait for their answer, `skipping` is what the
 // block call carries on, `last` says that the input has ended, `on` that the run goes on, `failed` that a read or a write did.
@@ -72,7 +76,7 @@ fn shift(buf: &mut [u8], start: usize, end: usize)
 }
 
 // Reads more behind the bytes that wait.
-fn refill(buf: &mut [u8], state: State) -> State
+fn refill<R: Read>(rt: &impl Eprint, input: &mut R, buf: &mut [u8], state: State) -> State
     requires { Waits state (length buf.old) }
     ensures waits { Waits result (length buf.old) }
     ensures refilled { Refilled state buf.old result buf.new }
@@ -81,12 +85,10 @@ fn refill(buf: &mut [u8], state: State) -> State
     let end = state.end;
     shift(buf, start, end);
     let keep = end - start;
-    let got = libc::read(STDIN_FILENO, &mut buf[keep..]);
-    if got < 0 {
-        io::write_all(STDERR_FILENO, b"rate: standard input cannot be read\n");
+    let Ok(more) = input.read(&mut buf[keep..]) else {
+        let _ = eprintln!(rt; "rate: standard input cannot be read");
         return stopped(true);
-    }
-    let more = io::count(got, &buf[keep..]);
+    };
     State {
         start: 0,
         end: keep + more,
@@ -121,22 +123,30 @@ fn answer(buf: &[u8], out: &mut [u8], state: State) -> Turn
 }
 
 // Hands the answer of what waits to the output. `buf` and `state` are lent only so that the contract can say whose answer it is.
-fn hand_out(buf: &[u8], state: State, out: &[u8], wrote: usize) -> bool
+fn hand_out<W: Write>(output: &mut W, buf: &[u8], state: State, out: &[u8], wrote: usize) -> bool
     requires wrote_in_bounds { wrote ≤ length out.now }
     requires answered { take wrote out.now ≡ (block_at state buf.now (length out.now)).text }
+    ensures { OnTrue result (Appends (W.contents output.old) (W.contents output.new) (block_at state buf.now (length out.now)).text) }
 {
-    io::write_all(STDOUT_FILENO, &out[..wrote])
+    output.write_all(&out[..wrote]).is_ok()
 }
 
 // Answers what waits, and writes it; where nothing that waits can be answered yet, reads more, or ends.
-fn advance(buf: &mut [u8], out: &mut [u8], state: State) -> State
+fn advance<R: Read, W: Write>(
+    rt: &impl Eprint,
+    input: &mut R,
+    output: &mut W,
+    buf: &mut [u8],
+    out: &mut [u8],
+    state: State,
+) -> State
     requires { Waits state (length buf.old) }
     ensures waits { Waits result (length buf.old) }
     ensures advanced { Advanced state buf.old (length out.old) result buf.new }
 {
     let turn = answer(buf, out, state);
-    if !hand_out(buf, state, out, turn.wrote) {
-        io::write_all(STDERR_FILENO, b"rate: standard output cannot be written\n");
+    if !hand_out(output, buf, state, out, turn.wrote) {
+        let _ = eprintln!(rt; "rate: standard output cannot be written");
         return stopped(true);
     }
     if turn.used != 0 {
@@ -145,24 +155,30 @@ fn advance(buf: &mut [u8], out: &mut [u8], state: State) -> State
     if state.last {
         return stopped(false);
     }
-    refill(buf, state)
+    refill(rt, input, buf, state)
 }
 
 // A proved loop has to end, and nothing says that an input does. So the loop counts its turns down, from a number that no run
 // uses up.
-fn run(buf: &mut [u8], out: &mut [u8])
+fn run<R: Read, W: Write>(
+    rt: &impl Eprint,
+    input: &mut R,
+    output: &mut W,
+    buf: &mut [u8],
+    out: &mut [u8],
+)
     ensures { Ran (length out.old) buf.old buf.new }
 {
     let mut state = started();
     let mut turns = u64::MAX;
     while turns > 0 && state.on {
-        state = advance(buf, out, state);
+        state = advance(rt, input, output, buf, out, state);
         turns -= 1;
     }
 }
 
-fn main() {
-    let mut buf = io::large_buffer();
-    let mut out = io::large_buffer();
-    run(&mut buf, &mut out);
+fn main(rt: HostRuntime) {
+    let mut buf = [0; ROOM];
+    let mut out = [0; ROOM];
+    run(&rt, &mut rt.stdin(), &mut rt.stdout(), &mut buf, &mut out);
 }

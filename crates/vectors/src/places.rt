@@ -1,9 +1,6 @@
 // The places of the arrays that are lent to a call: what they hold before it, and what is printed of them after it.
 ghost use Rattle.std.specs.Prelude.{◌≤◌, length};
 
-use libc::STDOUT_FILENO;
-use quantity::signed::{above, below};
-
 // What a lent place holds before a call. No answer has it: all that the call wrote is printed, past its answer or on a refusal
 // too.
 pub const UNWRITTEN: i32 = -2147483648;
@@ -43,33 +40,27 @@ fn end_of(places: &[i32]) -> usize
 }
 
 // A blank and the number of a place, or a dot where it was not written.
-fn print_place(z: i32) {
+fn print_place(rt: &impl Print, z: i32) {
     if z <= UNWRITTEN {
-        io::write_all(STDOUT_FILENO, b" .");
+        let _ = print!(rt; " .");
         return;
     }
-    if z < 0 {
-        io::write_all(STDOUT_FILENO, b" -");
-        io::print_decimal(STDOUT_FILENO, below(z, 0) as u64);
-        return;
-    }
-    io::write_all(STDOUT_FILENO, b" ");
-    io::print_decimal(STDOUT_FILENO, above(z, 0) as u64);
+    let _ = print!(rt; " {z}");
 }
 
 // Every place up to the last written one, so that a number in a wrong place shows.
-fn print_places(places: &[i32]) {
+fn print_places(rt: &impl Print, places: &[i32]) {
     let end = end_of(places);
     let mut i = 0;
     while i < end {
-        print_place(places[i]);
+        print_place(rt, places[i]);
         i += 1;
     }
 }
 
 // What a call wrote, to its array of numbers and to its list of sets.
-pub fn print_lent(out: &[i32; 17], sets: &[u16; 800]) {
-    print_places(out);
+pub fn print_lent(rt: &impl Print, out: &[i32; 17], sets: &[u16; 800]) {
+    print_places(rt, out);
     let numbers = numbers_of(sets);
-    print_places(&numbers);
+    print_places(rt, &numbers);
 }
