@@ -3,7 +3,8 @@
 // Nothing but moving bytes around the block call: what has been read is answered and written before the next read waits.
 #![tactic(auto)]
 
-ghost use Rattle.std.specs.Prelude.{false, ◌++◌, ◌≡◌, ◌-◌, ◌≤◌, length, take, drop, OnTrue};
+ghost use Rattle.std.specs.Prelude.{false, ◌++◌, ◌≡◌, ◌-◌, ◌≤◌, length, take, drop};
+ghost use Rattle.std.specs.Bool.{OnTrue};
 ghost use Rattle.std.specs.Io.KnownBytes.{Appends};
 ghost use Rattle.rate.specs.Waits.{Waits, block_at, first_state, Called, Refilled, Advanced, Ran};
 

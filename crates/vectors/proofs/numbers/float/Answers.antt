@@ -1,0 +1,6 @@
+-- A pattern above the infinities is a NaN's and was turned away.
+use Rattle.vectors.proofs.Patterns.{no_nan}
+use Rattle.vectors.proofs.numbers.float.Goals as goal
+
+pub float_from_bits-result : goal.float_from_bits-result
+float_from_bits-result c = no_nan c.natural-bits.result c.if-bits-gt2139095040.false

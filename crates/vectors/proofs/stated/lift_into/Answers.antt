@@ -1,0 +1,9 @@
+-- A count is small.
+use Rattle.std.proofs.Common.{◌∙◌, sym, arith}
+use Rattle.lift.proofs.Answers.{count_small}
+use Rattle.desk.proofs.Answers.{lifted-one}
+use Rattle.vectors.proofs.stated.lift_into.Goals as goal
+
+pub overflow_cast-n : goal.overflow_cast-n
+overflow_cast-n c =
+    record { sfits = omega (arith, count_small _ _ _ _ _ (sym (lifted-one _ _ c.in-Count.ensures.value))) }
