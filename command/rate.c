@@ -2,9 +2,10 @@
  * The command `rate`: what stands around the proved program.
  *
  * The proved program (crates/rate) reads standard input and writes standard output by read and write of the C library;
- * it can take no words and set no status. It is linked with this file, which the linker puts in front of these three
+ * it takes no words and sets no status. It is linked with this file, which the linker puts in front of these
  * (--wrap): main takes the words in and gives the status, read goes from file to file, and write says why it failed.
- * The bytes go where they went before: from the file into the program's buffer, and from there to the output.
+ * The bytes go where they went before: from the file into the program's buffer, and from there to the output. Before
+ * its main the program has a closed pipe answered by an error; that call is left out, since one ends this command.
  */
 #define _POSIX_C_SOURCE 200809L
 #include "words.h"
@@ -13,6 +14,7 @@
 #include <errno.h>
 #include <fcntl.h>
 #include <poll.h>
+#include <signal.h>
 #include <stdio.h>
 #include <string.h>
 #include <sys/stat.h>
@@ -22,6 +24,7 @@
 int __real_main(void);
 ssize_t __real_read(int file, void *bytes, size_t room);
 ssize_t __real_write(int file, const void *bytes, size_t count);
+typedef void handler(int signal);
 
 static char **to_read;          /* the files that are to be read, after the present one */
 static const char *name = NULL; /* the present one, NULL before the first */
@@ -167,6 +170,14 @@ ssize_t __wrap_write(int file, const void *bytes, size_t count)
         }
     }
     return (ssize_t)count;
+}
+
+/* Leaves a signal as it is, and says that it did what it does by itself. */
+handler *__wrap___sysv_signal(int which, handler *now)
+{
+    (void)which;
+    (void)now;
+    return SIG_DFL;
 }
 
 /* Adds the bytes of a file to those that are given: standard input once, from where it stands. */

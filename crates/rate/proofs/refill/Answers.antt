@@ -14,6 +14,6 @@ returns-clause-refilled g c =
     let n = length shifted - keep in
     let got = c.read.new.buf in
     let fits : keep + c.in-Ok.more ≤ length buf =
-      omega (arith, c.in-Ok.ensures.bound.0, c.read.auto.buf, c.shift.auto.buf, c.requires.order, c.requires.within) in
+    omega (arith, c.in-Ok.ensures.bound.0, c.read.auto.buf, c.shift.auto.buf, c.requires.order, c.requires.within) in
     Refilled.read (read_behind st buf shifted got n c.in-Ok.more c.requires c.shift.ensures c.shift.auto.buf
-        (same_len_mid keep n shifted got c.read.auto.buf ∙ c.shift.auto.buf) fits)
+    (same_len_mid keep n shifted got c.read.auto.buf ∙ c.shift.auto.buf) fits)
