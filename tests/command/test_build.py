@@ -26,11 +26,12 @@ class Copied(unittest.TestCase):
         self.tree.mkdir()
         for name in SOURCES:
             source = ROOT / name
-            (shutil.copytree if source.is_dir() else shutil.copy2)(source, self.tree / name)
-        for place in ("bin", "on/aarch64/toolchain/bin", "on/x86_64/toolchain/bin"):
-            (self.kit / place).mkdir(parents=True)
+            if source.is_dir():
+                shutil.copytree(source, self.tree / name, ignore=shutil.ignore_patterns("out"))
+            else:
+                shutil.copy2(source, self.tree / name)
+        (self.kit / "bin").mkdir(parents=True)
         self.environment = {**os.environ, "PATH": f"{self.kit}/bin:{os.environ['PATH']}"}
-        self.environment.pop("RATTLE_HOME", None)
 
     def make_tool(self, name, script):
         """A command that is found before all others."""
@@ -175,24 +176,36 @@ class Build(Copied):
 
 
 class OnX86(Copied):
-    """Where the machine gives itself out for x86-64, what the toolchain made is taken as it is."""
+    """What the toolchain made is taken as it is."""
 
     def setUp(self):
         super().setUp()
         native = ROOT / "target" / "native"
-        objects = (native / "rate.o", ROOT / "target" / "obj" / "rate.o")  # of this machine: the first that is there
         self.version = (ROOT / "VERSION").read_text().strip()
         shutil.copy2(native / f"imbrolt-{self.version}.o", self.kit / "desk_c.o")
-        shutil.copy2(next(file for file in objects if file.exists()), self.kit / "rate.o")
+        shutil.copy2(native / "rate.o", self.kit / "rate.o")
+        shutil.copytree(Path(shutil.which("rt")).resolve().parents[1] / "c", self.kit / "c")
         self.make_tool("uname", "echo x86_64")
-        self.make_tool("rt", f"""
-mkdir -p target/obj target/staticlib
-case "$1 $2" in
-"check rate") cp "{self.kit}/rate.o" target/obj/rate.o ;;
-"staticlib desk_c") ar rcs target/staticlib/libdesk_c.a "{self.kit}/desk_c.o" ;;
+        self.make_tool("rt", 'echo "rt: ok"')
+        self.make_tool("rattle", f"""
+while [ $# -gt 0 ]; do
+    case $1 in
+    --crate-name) name=$2 ;;
+    -o) made=$2 ;;
+    esac
+    shift
+done
+case $name in
+rate) cp "{self.kit}/rate.o" "$made" ;;
+desk_c) ar rcs "$made" "{self.kit}/desk_c.o" ;;
 esac
-echo "rt: ok"
 """)
+
+    def test_another_machine_is_told_so(self):
+        self.make_tool("uname", "echo aarch64")
+        status, answers, messages = self.rate()
+        self.assertEqual((status, answers), (1, b""))
+        self.assertIn("Rattle builds for x86-64, and this machine is another (aarch64)", messages)
 
     def test_command(self):
         status, answers, messages = self.rate()
