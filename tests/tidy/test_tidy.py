@@ -14,13 +14,13 @@ FILES = {
     "crates.txt": "base:\nbeside:\ntop: base beside\n",
     "docs/PROOFS.md": "The theorem is `Laws.told` of `top`, by `gone` and `specs/`.\n",
     "crates/base/src/lib.rt": (
-        "ghost use mathlib.Core.Path.{_≡_};\n"
-        "ghost use Rattle·base·specs.specs.Words.{doubled, halved};\n"
-        "pub fn double(n: u32) -> u32\n    ensures { λ r. ⌜ r ≡ doubled n ⌝ }\n{\n    n + n\n}\n"
+        "ghost use Rattle.std.specs.Prelude.{◌≡◌};\n"
+        "ghost use Rattle.base.specs.Words.{doubled, halved};\n"
+        "pub fn double(n: u32) -> u32\n    ensures { result ≡ doubled n }\n{\n    n + n\n}\n"
         "fn lost(n: u32) -> u32 {\n    n\n}\n"
     ),
     "crates/base/specs/Words.antt": (
-        "use Prim.Native.Nat.{ℕ, _+_, _-_}\n"
+        "use Rattle.std.specs.Prelude.{ℕ, ◌+◌, ◌-◌}\n"
         "unfoldable pub doubled : ℕ → ℕ\ndoubled n-s = n-s + n-s\n\n"
         "abbrev pub halved : ℕ → ℕ\nhalved n = n\n\n"
         "pub record Pair : Type 0 where\n  pub left : ℕ\n  pub unread : ℕ\n\n"
@@ -35,27 +35,37 @@ FILES = {
     ),
     "crates/top/proofs/Laws.antt": (
         "-- a comment names forgotten\n"
-        "use Rattle·base.specs.Words.{doubled, Pair, Side}\n\n"
-        "helper : Pair → Side\nhelper p = p .left\n\n"
+        "use Rattle.base.specs.Words.{doubled, Pair, Side}\n\n"
+        "helper : Pair → Side\nhelper p = p.left\n\n"
         "pub told : doubled\ntold = helper\n\n"
         "pub forgotten : doubled\nforgotten = forgotten\n"
     ),
-    "crates/top/proofs/four/Proof.antt": "-- `top::four` meets its contract.\npub four-spec : statement\nfour-spec = close\n",
-    "crates/top/proofs/twice/Proof.antt": "-- `base::twice` meets its contract.\n-- src/lib.rt:2:1\npub twice-spec : statement\ntwice-spec = close\n",
+    "crates/top/proofs/four/Invariants.antt": (
+        "use Rattle.top.proofs.four.Given as goal\n\n"
+        "abbrev pub invariant-loop : goal.invariant-loop\ninvariant-loop l = record {\n  within : l;\n}\n"
+    ),
+    "crates/top/proofs/four/Answers.antt": "-- `top::four` meets its contract.\npub returns : goal.returns\nreturns c = c\n",
+    "crates/top/proofs/twice/Answers.antt": (
+        "-- `base::twice` meets its contract.\n-- src/lib.rt:2:1\n"
+        "aside : ℕ\naside = 1\n\npub returns : goal.returns\nreturns c = c\n"
+    ),
+    "crates/top/proofs/six/Proof.antt": "-- `top::six` meets its contract.\npub six_spec : statement\nsix_spec = close\n",
+    "crates/top/out/proofs/Made.antt": "pub made : ℕ\nmade = 1\n",
 }
 
 FOUND = {
     "crates/base/specs/Words.antt:10: nothing cites unread",
     "crates/top/proofs/Laws.antt:10: nothing cites forgotten",
-    "crates/base/specs/Words.antt:1: _-_ is imported and not used",
+    "crates/base/specs/Words.antt:1: ◌-◌ is imported and not used",
     "crates/base/src/lib.rt:2: halved is imported and not used",
     "crates/base/src/lib.rt:8: nothing calls lost",
     "crates/top/src/other.rt:3: nothing calls five",
     "crates/top/src/other.rt:6: nothing calls six",
     "crates.txt:3: top does not use beside",
     "docs/PROOFS.md:1: there is no gone",
-    "crates/top/proofs/twice/Proof.antt:1: the first line does not name top::twice",
-    "crates/top/proofs/twice/Proof.antt:2: a position in the code",
+    "crates/top/proofs/twice/Answers.antt:1: the first line does not name top::twice",
+    "crates/top/proofs/twice/Answers.antt:2: a position in the code",
+    "crates/top/proofs/twice/Answers.antt:3: nothing cites aside",
 }
 
 

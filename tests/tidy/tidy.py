@@ -10,7 +10,7 @@ Six lists, each line with its file and place:
 - a name that a logic file imports, or that `ghost use` brings in for contracts, and does not use;
 - a function of the code (.rt) that no other function calls, unless it is open to callers of `desk` or `desk_c`;
 - a crate that crates.txt lists for a crate whose files never name it;
-- a proof of a function whose first line does not name that function, and a comment that gives a position in the code;
+- a proof of a function whose first line names another function, and a comment that gives a position in the code;
 - a name in code marks on the page docs/PROOFS.md that stands nowhere in the crates.
 
 It reads words, not meanings: a name counts as cited where the same word stands in a place that could mean it.
@@ -20,10 +20,12 @@ import re
 import sys
 from pathlib import Path
 
-WORD = r"(?:\[\]|[^\s(){}\[\],;.`\"⌜⌝@]+)"
+WORD = r"(?:\[\]|[^\s(){}\[\],;.`\"@]+)"
 MARKS = r"^(?P<indent> *)(?P<marks>(?:(?:pub|abbrev|unfoldable) )*)"
 DECLARED = re.compile(rf"{MARKS}(?:(?:record|data|ruleset) (?P<type>{WORD})|(?P<name>{WORD}) :)(?: |$)")
 USE = re.compile(r"^\s*(?:abbrev |unfoldable )?(?P<again>pub )?use (?P<path>[^\s{]+?)(?:\.\{(?P<names>.*)\})?(?: as \S+)?\s*$")
+GOAL = re.compile(rf"\s*(?:abbrev )?(?:pub )?{WORD} : goal\.")
+PROOFS = ("Proof", "Invariants", "Answers")
 OPEN_CRATES = ("desk", "desk_c")
 
 
@@ -43,6 +45,7 @@ class Logic:
         parts = self.path.parts
         self.crate = parts[1]
         self.module = path.stem
+        self.is_proof = parts[2] == "proofs" and len(parts) > 4 and path.stem in PROOFS  # of one function
         text = path.read_text()
         self.text = text
         self.lines = without_comments(text).split("\n")
@@ -65,7 +68,7 @@ class Logic:
             if line.strip() and record is not None and len(line) - len(line.lstrip()) <= record:
                 record = None
             name = match and (match["type"] or match["name"])
-            if not match or name in found:
+            if not match or name in found or line.endswith(";"):  # a part of a record that is written out
                 continue
             own, indent = {number}, len(match["indent"])
             if record is not None and within == "data":
@@ -99,11 +102,12 @@ def names_uncited(files, code, pages):
         for path, names in re.findall(r"^ghost use ([^{]+)\.\{(.*)\};", text, flags=re.M):
             for name in names.split(","):
                 imported.setdefault(name.strip().split(" ")[0], set()).add(path.split(".")[-1])
-        for contract in re.findall("⌜(.*?)⌝", text, flags=re.S):
-            fields.update(re.findall(rf"\.({WORD})", contract))
+        for module, name in re.findall(r"\b(?:specs|proofs)::(?:\w+::)*(\w+)::(\w+)", text):  # as tactics are told of them
+            imported.setdefault(name, set()).add(module)
+        fields.update(re.findall(rf"\.({WORD})", lines_of_contracts(text)))
     for file in files:
         for name, number, is_field, is_open, own in file.definitions:
-            proof = file.module == "Proof" and name.endswith("-spec")
+            proof = file.is_proof and (GOAL.match(file.lines[number - 1]) or re.search("[-_]spec$", name))
             outside = is_open and file.module in imported.get(name, ())
             if proof or outside or name in pages or (is_field and name in fields):
                 continue
@@ -112,19 +116,19 @@ def names_uncited(files, code, pages):
 
 
 def is_used(name, used):
-    """Whether a name stands among words: whole, or an operator such as _+_ by its parts."""
-    parts = [part for part in name.split("_") if part]
-    return name in used or ("_" in name and all(part in used for part in parts))
+    """Whether a name stands among words: whole, or an operator such as ◌+◌ by its parts."""
+    parts = [part for part in name.split("◌") if part]
+    return name in used or ("◌" in name and all(part in used for part in parts))
 
 
-def contracts_of(text):
-    """The words of all contracts of a file of the code."""
+def lines_of_contracts(text):
+    """All contracts of a file of the code."""
     lines, inside = [], False
     for line in text.split("\n"):
         begins = re.match(r"\s*(?:requires|ensures)\b", line)
         inside = bool(begins) or (inside and line.strip() not in ("{", ""))
         lines += [line] if inside else []
-    return set(words("\n".join(lines)))
+    return "\n".join(lines)
 
 
 def imports_unused(files, code):
@@ -134,7 +138,7 @@ def imports_unused(files, code):
             if not is_passed_on and not is_used(here, used):
                 yield f"{file.path}:{number}: {here} is imported and not used"
     for path, text in code.items():
-        used = contracts_of(text)
+        used = set(words(lines_of_contracts(text)))
         for number, line in enumerate(text.split("\n"), 1):
             use = re.match(r"ghost use [^{]+\{(.*)\};", line)
             for name in use[1].split(",") if use else ():
@@ -148,7 +152,7 @@ def functions_uncalled(code):
     bare = {path: re.sub(r"//.*|^\s*(?:ghost |pub )?use .*", "", text, flags=re.M) for path, text in code.items()}
     uses = "\n".join(code.values())
     for path, text in code.items():
-        for match in re.finditer(r'^( *)(pub )?(?:extern "C" )?fn ([a-z_0-9]+).*\n(?:(?!\1}).*\n)*', text, flags=re.M):
+        for match in re.finditer(r'^( *)(pub )?(?:const )?(?:extern "C" )?fn ([a-z_0-9]+).*\n(?:(?!\1}).*\n)*', text, flags=re.M):
             name = match[3]
             if name == "main" or (match[2] and path.parts[1] in OPEN_CRATES):
                 continue
@@ -166,15 +170,15 @@ def crates_unused(root, files, code):
         text = "".join(code[path] for path in code if path.parts[1] == name)
         text += "".join("\n".join(file.lines) for file in files if file.crate == name)
         for need in needs.split():
-            if not re.search(rf"\b{need}::|Rattle·{need}[.·]|\buse {need}\b|\b{need}·|\.{need}·", text):
+            if not re.search(rf"\b{need}::|Rattle\.{need}\.|\buse {need}\b", text):
                 yield f"crates.txt:{number}: {name} does not use {need}"
 
 
 def headers_wrong(files):
     for file in files:
-        if file.module == "Proof":
+        if file.is_proof:
             name = "::".join([file.crate, *(part.lstrip("+") for part in file.path.parts[3:-1])])
-            if not file.text.startswith(f"-- `{name}`"):
+            if file.text.startswith("-- `") and not file.text.startswith(f"-- `{name}`"):
                 yield f"{file.path}:1: the first line does not name {name}"
         for number, line in enumerate(file.text.split("\n"), 1):
             if re.search(r"--.*\.rt:\d+", line):
@@ -191,7 +195,7 @@ def pages_stale(root, files, code):
 
 
 def untidy(root):
-    files = [Logic(path, root) for path in sorted(root.glob("crates/*/**/*.antt")) if "target" not in path.relative_to(root).parts]
+    files = [Logic(path, root) for path in sorted(root.glob("crates/*/**/*.antt")) if "out" not in path.relative_to(root).parts]
     code = {path.relative_to(root): path.read_text() for path in sorted(root.glob("crates/*/src/**/*.rt"))}
     pages = set(words("\n".join(re.findall(r"`([^`\n]+)`", (root / "docs/PROOFS.md").read_text()))))
     yield from names_uncited(files, code, pages)

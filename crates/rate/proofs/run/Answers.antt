@@ -1,4 +1,4 @@
-use Rattle.std.proofs.Common.{◌≡◌, ℕ, suc, ◌-◌, ◌≤◌, ◌<◌, refl, subst, sym, arith, length}
+use Rattle.std.proofs.Common.{◌≡◌, ℕ, suc, ◌-◌, ◌≤◌, ◌<◌, subst, sym, arith, length}
 use Rattle.rate.specs.declared.State.{State}
 use Rattle.rate.specs.Waits.{Waits, Advanced, Steps, most_turns}
 use Rattle.rate.proofs.run.Goals as goal

@@ -1,4 +1,4 @@
-use Rattle.std.proofs.Common.{◌≡◌, ◌∙◌, ◌-◌, refl, sym, ap, arith, set, get_or}
+use Rattle.std.proofs.Common.{◌≡◌, ◌∙◌, ◌-◌, sym, ap, arith, set, get_or}
 use Rattle.rate.proofs.Moves.{moved, moved_more}
 use Rattle.rate.proofs.shift.Goals as goal
 

@@ -1,5 +1,5 @@
 -- A count is small.
-use Rattle.std.proofs.Common.{◌∙◌, sym, arith}
+use Rattle.std.proofs.Common.{sym, arith}
 use Rattle.lift.proofs.Answers.{count_small}
 use Rattle.desk.proofs.Answers.{lifted-one}
 use Rattle.vectors.proofs.stated.lift_into.Goals as goal
