@@ -66,7 +66,7 @@ LOGIC_HEAD = """\
 -- code's tables are these by computation. Each entry is tested from both sides: it passes its rule and the number beside it
 -- fails, and a rule that grows or falls all along has one such number only. So the proof fails if any one entry changes, in the
 -- code alone or in the code and here.
-use mathlib.Core.List.{List, [], _∷_}
+use mathlib.Core.List.{List, [], ◌∷◌}
 use Prim.Native.Nat.{ℕ}
 """
 
@@ -77,8 +77,8 @@ def sentence(text):
 
 
 def constant(name, kind, text, entries):
-    """One constant array, one entry to a line, as the formatter lays it out."""
-    lines = "".join(f"    {entry},\n" for entry in entries)
+    """One constant array, filled up to 100 columns, as the formatter lays it out."""
+    lines = textwrap.fill(", ".join(map(str, entries)) + ",", 100, initial_indent="    ", subsequent_indent="    ") + "\n"
     head = textwrap.fill(sentence(text), 128, initial_indent="// ", subsequent_indent="// ")
     return f"\n{head}\npub const {name}: [{kind}; {len(entries)}] = [\n{lines}];\n"
 
