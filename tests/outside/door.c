@@ -1,6 +1,6 @@
 /*
  * The C door as a program: makes the calls that it reads on standard input, and writes back what
- * they returned and left in memory. For comparing an archive of another machine under an emulator.
+ * they returned and left in memory. For comparing the archive as a program of C links it.
  *
  * A batch is its length in bytes (64 bits) and so many bytes of frames; the answer is the frames
  * again, each call's number replaced by what it returned. Numbers are in this machine's order.

@@ -28,9 +28,9 @@ pub const PLAN: [(Call, &str, usize); 15] = [
     (Call::Close, "closings", 180_000),
 ];
 
-/// A program speaks for a machine that is emulated, where a call on a register takes milliseconds:
-/// of those calls it is asked one in so many.
-const EMULATED: usize = 20;
+/// A program is handed the whole register with each call on one: of those calls it is asked one in
+/// so many.
+const HANDED: usize = 20;
 
 /// Frames are made and sent so many at a time.
 const BATCH: usize = 500;
@@ -55,7 +55,7 @@ pub fn all(door: &mut Door, wanted: &[String], part: usize) -> Compared {
         }
         let tally = match call {
             Call::Bill | Call::Close => {
-                let slow = if matches!(door, Door::Program(_)) { EMULATED } else { 1 };
+                let slow = if matches!(door, Door::Program(_)) { HANDED } else { 1 };
                 histories::compare(door, &mut seeded, call == Call::Close, count / part / slow)?
             }
             _ => {
