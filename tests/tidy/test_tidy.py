@@ -42,7 +42,7 @@ FILES = {
     ),
     "crates/top/proofs/four/Invariants.antt": (
         "use Rattle.top.proofs.four.Given as goal\n\n"
-        "abbrev pub invariant-loop : goal.invariant-loop\ninvariant-loop l = record {\n  within : l;\n}\n"
+        "abbrev pub invariant-loop : goal.invariant-loop\ninvariant-loop l = record {\n  within : l;\n  beyond :\n    l;\n}\n"
     ),
     "crates/top/proofs/four/Answers.antt": "-- `top::four` meets its contract.\npub returns : goal.returns\nreturns c = c\n",
     "crates/top/proofs/twice/Answers.antt": (

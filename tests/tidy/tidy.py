@@ -62,13 +62,14 @@ class Logic:
 
     def defined(self):
         """Each name once: its place, whether it is a field, whether it is open, and the numbers of its own lines."""
-        found, record, within = {}, None, None
+        found, record, within, depth = {}, None, None, 0
         for index, (number, line) in enumerate(self.body):
-            match = DECLARED.match(line)
+            match = DECLARED.match(line) if depth == 0 else None  # else a part of a record that is written out
+            depth += line.count("{") - line.count("}")
             if line.strip() and record is not None and len(line) - len(line.lstrip()) <= record:
                 record = None
             name = match and (match["type"] or match["name"])
-            if not match or name in found or line.endswith(";"):  # a part of a record that is written out
+            if not match or name in found:
                 continue
             own, indent = {number}, len(match["indent"])
             if record is not None and within == "data":
@@ -77,8 +78,8 @@ class Logic:
             if match["type"]:
                 record, within = indent, line.split(match["type"])[0].split()[-1]
             for later, text in self.body[index + 1:]:
-                depth = len(text) - len(text.lstrip())
-                if text.strip() and (depth < indent or depth == indent and not re.match(rf"\s*(?:unfolding |{re.escape(name)}(?:\s|$))", text)):
+                inner = len(text) - len(text.lstrip())
+                if text.strip() and (inner < indent or inner == indent and not re.match(rf"\s*(?:unfolding |{re.escape(name)}(?:\s|$))", text)):
                     break
                 own.add(later)
             found[name] = (name, number, is_field, "pub" in match["marks"], own)

@@ -1,3 +1,4 @@
--- Laws of the program: bytes that are moved, and what the calls of a run come to.
+-- Laws of the program: bytes that are moved, what the calls of a run come to, and what that makes of an input and an output.
 pub mod Moves
 pub mod Follows
+pub mod Streams

@@ -7,7 +7,8 @@ use native.Mathlib.Omega.{arith}
 use borrow.Rule.Slice.PartMut.{put_mid, post_of}
 use lib.Dec.{eqb}
 use lib.ListN.{length, take, drop, get_or, set, length-drop, take-append-drop}
-use lib.Seq.{length-take-le, take-suc, drop-cons, append_snoc, get_or-append-add, get_or-drop, take-take, drop-drop, take-add, set_at, take_at, drop_at}
+use lib.Seq.{length-take-le, take-suc, drop-cons, append_snoc, get_or-append-add, get_or-drop, take-take, drop-drop, take-add, take-append-le, set_at, take_at, drop_at}
+use Rattle.std.proofs.lemmas.List.{drop-take}
 use Rattle.line.specs.declared.blocks.Progress.{Progress}
 use Rattle.line.specs.Blocks.{Block, Answered}
 use Rattle.rate.specs.declared.State.{State}
@@ -110,3 +111,13 @@ module _ (s : State) (buf shifted ys : List ℕ) (n more : ℕ) where
 
       count : length (waiting refilled after) - keep ≡ more
       count = omega (arith, length-take-le (keep + more - 0) after (omega arith))
+
+  pub taken_behind : Waits s (length buf) → length shifted ≡ length buf → more ≤ length ys → drop keep (waiting refilled after) ≡ take more ys
+  taken_behind w size few =
+      ap (λ (k : ℕ). drop keep (take k after)) (whole (keep + more))
+      ∙ drop-take keep more after
+      ∙ ap (take more) (drop_at (take keep shifted) (ys ++ post_of keep n shifted) keep (length-take-le keep shifted (omega (arith, w.order, w.within))))
+      ∙ take-append-le more ys (post_of keep n shifted) few
+    where
+      whole : (k : ℕ) → k - 0 ≡ k
+      whole k = omega arith

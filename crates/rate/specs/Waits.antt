@@ -1,5 +1,6 @@
 -- What the program does with its bytes from turn to turn, as far as it can be said without its input and output.
-use Rattle.std.specs.Prelude.{true, false, List, ◌++◌, ◌≡◌, ℕ, suc, ◌-◌, ◌≤◌, eqb, length, take, drop}
+use Rattle.std.specs.Prelude.{true, false, List, [], ◌++◌, ◌≡◌, ℕ, suc, ◌-◌, ◌≤◌, ◌<◌, eqb, length, take, drop, Option}
+use Rattle.std.specs.Io.KnownBytes.{Keeps, Consumes, IsAtEnd}
 use Rattle.line.specs.Blocks.{Block, block_of}
 use Rattle.rate.specs.declared.State.{State}
 use Rattle.rate.specs.declared.Turn.{Turn}
@@ -59,6 +60,18 @@ pub data Advanced (s : State) (buf : List ℕ) (room : ℕ) (r : State) (after :
   ended : (block_at s buf room).used ≡ 0 → s.last ≡ true → r.on ≡ false → r.failed ≡ false → Advanced s buf room r after
   read : (block_at s buf room).used ≡ 0 → s.last ≡ false → Read s buf r after → Advanced s buf room r after
   broken : r.on ≡ false → r.failed ≡ true → Advanced s buf room r after
+
+-- What a read takes of an input whose bytes are known: those that wait behind what waited. With room for one it takes none only at
+-- the end.
+pub record Taken (s : State) (buf : List ℕ) (r : State) (after : List ℕ) (old new : Option (List ℕ)) : Type 0 where
+  pub front : Consumes old new (read_behind s r after)
+  pub end : length (waiting s buf) < length buf → read_behind s r after ≡ [] → IsAtEnd new
+
+-- What a step takes of it: something only where the call used nothing and the input had not ended.
+pub record Took (s : State) (buf : List ℕ) (room : ℕ) (r : State) (after : List ℕ) (old new : Option (List ℕ)) : Type 0 where
+  pub by_answer : ((block_at s buf room).used ≡ 0 → ⊥) → Keeps old new
+  pub by_end : s.last ≡ true → Keeps old new
+  pub by_read : (block_at s buf room).used ≡ 0 → s.last ≡ false → Taken s buf r after old new
 
 -- steps one after another, from the first state on: the state and the buffer that so many of them lead to
 pub data Steps (room : ℕ) (buf : List ℕ) : ℕ → State → List ℕ → Type 0 where

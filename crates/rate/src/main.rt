@@ -3,10 +3,11 @@
 // Nothing but moving bytes around the block call: what has been read is answered and written before the next read waits.
 #![tactic(auto)]
 
-ghost use Rattle.std.specs.Prelude.{false, ◌++◌, ◌≡◌, ◌-◌, ◌≤◌, length, take, drop};
+ghost use Rattle.std.specs.Prelude.{false, ◌++◌, ◌≡◌, ◌-◌, ◌≤◌, length, take, drop, IfSome};
 ghost use Rattle.std.specs.Bool.{OnTrue};
 ghost use Rattle.std.specs.Io.KnownBytes.{Appends};
-ghost use Rattle.rate.specs.Waits.{Waits, block_at, first_state, Called, Refilled, Advanced, Ran};
+ghost use Rattle.line.specs.Answers.{answers_of};
+ghost use Rattle.rate.specs.Waits.{Waits, block_at, first_state, Called, Refilled, Taken, Advanced, Took, Ran};
 
 use line::answer_block;
 use std::io::{Read, Write};
@@ -81,6 +82,7 @@ fn refill<R: Read>(rt: &impl Eprint, input: &mut R, buf: &mut [u8], state: State
     requires { Waits state (length buf.old) }
     ensures waits { Waits result (length buf.old) }
     ensures refilled { Refilled state buf.old result buf.new }
+    ensures taken { result.failed ≡ false → Taken state buf.old result buf.new (R.remaining input.old) (R.remaining input.new) }
 {
     let start = state.start;
     let end = state.end;
@@ -144,6 +146,8 @@ fn advance<R: Read, W: Write>(
     requires { Waits state (length buf.old) }
     ensures waits { Waits result (length buf.old) }
     ensures advanced { Advanced state buf.old (length out.old) result buf.new }
+    ensures took { result.failed ≡ false → Took state buf.old (length out.old) result buf.new (R.remaining input.old) (R.remaining input.new) }
+    ensures handed { result.failed ≡ false → Appends (W.contents output.old) (W.contents output.new) (block_at state buf.old (length out.old)).text }
 {
     let turn = answer(buf, out, state);
     if !hand_out(output, buf, state, out, turn.wrote) {
@@ -159,16 +163,17 @@ fn advance<R: Read, W: Write>(
     refill(rt, input, buf, state)
 }
 
-// A proved loop has to end, and nothing says that an input does. So the loop counts its turns down, from a number that no run
-// uses up.
+// Whether all that was to be read is answered, and the answers are written. A proved loop has to end, and nothing says that an
+// input does. So the loop counts its turns down, from a number that no run uses up.
 fn run<R: Read, W: Write>(
     rt: &impl Eprint,
     input: &mut R,
     output: &mut W,
     buf: &mut [u8],
     out: &mut [u8],
-)
-    ensures { Ran (length out.old) buf.old buf.new }
+) -> bool
+    ensures ran { Ran (length out.old) buf.old buf.new }
+    ensures answered { 64 ≤ length out.old → 512 ≤ length buf.old → OnTrue result (IfSome (R.remaining input.old) (λ xs. Appends (W.contents output.old) (W.contents output.new) (answers_of xs))) }
 {
     let mut state = started();
     let mut turns = u64::MAX;
@@ -176,8 +181,10 @@ fn run<R: Read, W: Write>(
         state = advance(rt, input, output, buf, out, state);
         turns -= 1;
     }
+    !state.on && !state.failed
 }
 
+// It sets no status: a read or a write that failed is told on standard error.
 fn main(rt: HostRuntime) {
     let mut buf = [0; ROOM];
     let mut out = [0; ROOM];
