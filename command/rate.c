@@ -25,6 +25,7 @@ int __real_main(void);
 ssize_t __real_read(int file, void *bytes, size_t room);
 ssize_t __real_write(int file, const void *bytes, size_t count);
 typedef void handler(int signal);
+handler *__real___sysv_signal(int which, handler *now);
 
 static char **to_read;          /* the files that are to be read, after the present one */
 static const char *name = NULL; /* the present one, NULL before the first */
@@ -172,12 +173,10 @@ ssize_t __wrap_write(int file, const void *bytes, size_t count)
     return (ssize_t)count;
 }
 
-/* Leaves a signal as it is, and says that it did what it does by itself. */
+/* Has no signal ignored, and says that it did what it does by itself. */
 handler *__wrap___sysv_signal(int which, handler *now)
 {
-    (void)which;
-    (void)now;
-    return SIG_DFL;
+    return now == SIG_IGN ? SIG_DFL : __real___sysv_signal(which, now);
 }
 
 /* Adds the bytes of a file to those that are given: standard input once, from where it stands. */
