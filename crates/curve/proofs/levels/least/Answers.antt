@@ -15,8 +15,8 @@ loop-i-preserved c =
     let f : ℕ → ℕ = at c.args.levels.now in (
       omega arith,
       elim c.if-levels-i.branch [
-        then-levels-i w ↦ w.least-is ∙ least-new f c.loop-i.i c.loop-i.least c.loop-i.invariant.1 w.if-levels-i.true
-      | else-levels-i w ↦ w.least-is ∙ least_kept f c.loop-i.i c.loop-i.least c.loop-i.invariant.1 w.if-levels-i.false
+        | then-levels-i w ↦ w.least-is ∙ least-new f c.loop-i.i c.loop-i.least c.loop-i.invariant.1 w.if-levels-i.true
+        | else-levels-i w ↦ w.least-is ∙ least_kept f c.loop-i.i c.loop-i.least c.loop-i.invariant.1 w.if-levels-i.false
       ],
     )
 

@@ -14,7 +14,6 @@ loop-i-init c = (omega arith, λ p e. total-none _ p)
 pub overflow_add-total : goal.overflow_add-total
 overflow_add-total c =
     let l = c.loop-i in
-    
     let p : ℕ = c.args.p.0 in
     omega (arith, total-most (at c.args.levels.now) l.i p (omega arith), l.invariant.1 p c.tenths-height.ensures)
 
@@ -24,11 +23,11 @@ loop-i-preserved c =
     let height : ℕ = c.tenths-height.result in (
       omega arith,
       λ p e. elim c.if-levels-i.branch [
-        then-levels-i w ↦
+        | then-levels-i w ↦
             w.total-is
             ∙ total-more (at levels) c.loop-i.i p c.loop-i.total (height - at levels c.loop-i.i) (c.loop-i.invariant.1 p e)
-                (ap (λ (h : ℕ). h - at levels c.loop-i.i) e)
-      | else-levels-i w ↦
+            (ap (λ (h : ℕ). h - at levels c.loop-i.i) e)
+        | else-levels-i w ↦
             w.total-is ∙ total-same (at levels) c.loop-i.i p c.loop-i.total (c.loop-i.invariant.1 p e) (omega (arith, w.if-levels-i.false, e))
       ],
     )

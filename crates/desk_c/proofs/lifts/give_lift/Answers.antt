@@ -32,12 +32,12 @@ returns-in-Count c =
     let w = goal.at.returns-in-Count c in
     let e = answered w.After-lift in
     let a = lift-counted _ _ _ _ _ _ _ _ _ (room w.After-lift) e c.lift.ensures.out_after c.in-Count.is
-        (as-pos _ (omega (arith, small w.In-Count e))) in
+    (as-pos _ (omega (arith, small w.In-Count e))) in
     record { value = a.0; list_after = a.1.0; out_after = a.1.1 }
 
 pub returns-in-Refused : goal.returns-in-Refused
 returns-in-Refused c =
     let w = goal.at.returns-in-Refused c in
     let a = lift-refused _ _ _ _ _ _ _ _ _ (room w.After-lift) (answered w.After-lift) c.lift.ensures.out_after c.in-Refused.is
-        c.number.ensures in
+    c.number.ensures in
     record { value = a.0; list_after = a.1.0; out_after = a.1.1 }

@@ -11,6 +11,6 @@ returns-in-Improvement c =
     let w = c.in-Improvement in
     let g = c.give in
     let a = given _ (improvement_answer c.args.cover) g.result c.args.out.now _
-        (cover-given c.args.cover w.improvement w.spectrum w.limit _ _ _ w.is (search rules) (search rules) (back c.flag_of-mark.result c.flag_of-mark.type_inv ∙ c.flag_of-mark.ensures))
-        (g.ensures.value, g.ensures.out_after) in
+    (cover-given c.args.cover w.improvement w.spectrum w.limit _ _ _ w.is (search rules) (search rules) (back c.flag_of-mark.result c.flag_of-mark.type_inv ∙ c.flag_of-mark.ensures))
+    (g.ensures.value, g.ensures.out_after) in
     record { value = a.0; out_after = a.1 }

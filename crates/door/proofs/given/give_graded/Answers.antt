@@ -19,7 +19,7 @@ pub returns-in-Given : goal.returns-in-Given
 returns-in-Given c =
     let g = c.give in
     let a = given _ _ _ _ _
-        (grade-given _ c.in-Given.grade _ _ _ _ _ _ c.in-Given.is (search rules) (search rules) (search rules) (search rules)
-        (as-pos _ (omega (arith, small (goal.at.returns-in-Given c).In-Given))) (back c.flag_of-mark.result c.flag_of-mark.type_inv ∙ c.flag_of-mark.ensures))
-        (g.ensures.value, g.ensures.out_after) in
+    (grade-given _ c.in-Given.grade _ _ _ _ _ _ c.in-Given.is (search rules) (search rules) (search rules) (search rules)
+    (as-pos _ (omega (arith, small (goal.at.returns-in-Given c).In-Given))) (back c.flag_of-mark.result c.flag_of-mark.type_inv ∙ c.flag_of-mark.ensures))
+    (g.ensures.value, g.ensures.out_after) in
     record { value = a.0; out_after = a.1 }

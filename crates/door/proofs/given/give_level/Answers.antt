@@ -9,5 +9,5 @@ returns-in-Value c =
     let w = c.in-Value in
     let g = c.give in
     let a = given _ (level_answer c.args.taken) g.result c.args.out.now _
-        (level-given c.args.taken w.value w.field-1 _ w.is (search rules)) (g.ensures.value, g.ensures.out_after) in
+    (level-given c.args.taken w.value w.field-1 _ w.is (search rules)) (g.ensures.value, g.ensures.out_after) in
     record { value = a.0; out_after = a.1 }

@@ -14,5 +14,5 @@ pub returns-in-Accepted : goal.returns-in-Accepted
 returns-in-Accepted c =
     let g = c.give in
     let a = given _ _ _ _ _ (ap numbers c.set_numbers-answer.ensures ∙ ap (set_answer c.args.intake.set c.args.n) (sym c.in-Accepted.is))
-        (g.ensures.value, g.ensures.out_after) in
+    (g.ensures.value, g.ensures.out_after) in
     record { value = a.0; out_after = a.1 }

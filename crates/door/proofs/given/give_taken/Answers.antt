@@ -11,6 +11,6 @@ returns-in-Value c =
     let w = c.in-Value in
     let g = c.give in
     let a = given _ (taken_answer c.args.taken) g.result c.args.out.now _
-        (taken-given c.args.taken w.value w.limit _ _ w.is (search rules) (back c.flag_of-mark.result c.flag_of-mark.type_inv ∙ c.flag_of-mark.ensures))
-        (g.ensures.value, g.ensures.out_after) in
+    (taken-given c.args.taken w.value w.limit _ _ w.is (search rules) (back c.flag_of-mark.result c.flag_of-mark.type_inv ∙ c.flag_of-mark.ensures))
+    (g.ensures.value, g.ensures.out_after) in
     record { value = a.0; out_after = a.1 }

@@ -11,10 +11,10 @@ use Rattle.energy.proofs.lent.laid_at.Invariants.{laid-before, laid-behind}
 pub loop-i-init : goal.loop-i-init
 loop-i-init c =
     record {
-  within = omega arith;
-  whole = search rules;
-  same = λ j h. sym (laid-before _ _ _ _ j (omega arith));
-}
+      within = omega arith;
+      whole = search rules;
+      same = λ j h. sym (laid-before _ _ _ _ j (omega arith));
+    }
 
 pub loop-i-preserved : goal.loop-i-preserved
 loop-i-preserved c =

@@ -33,12 +33,11 @@ pub bounds-tables-next-2 : goal.bounds-tables-next-2
 bounds-tables-next-2 c = omega (arith, fits (goal.at.bounds-tables-next-2 c).Start, c.requires.mean_tabled.long)
 
 -- the second place counts from the first
-told : (c : After-missed-2) → 
+told : (c : After-missed-2) →
     let n : ℕ = 46 + c.missed.result + c.missed-2.result in
     let k : ℕ = turn_in c.args.tables.now c.args.s in
     (k ≤ n) × (n - k ≡ v c.args.s)
 told c =
-    
     let table : List ℕ = c.args.tables.now in
     let k : ℕ = turn_in table c.args.s in
     let a : c.missed.result ≡ missed_at (c.args.s - 1) table (100 + k) = c.missed.ensures.value in

@@ -19,9 +19,9 @@ pub without-requires : goal.without-requires
 without-requires c = sound-most _ (total-sound _ _ _ (settled c))
 
 pub returns-in-Refused : goal.returns-in-Refused
-returns-in-Refused c = record { owed = sym (refused c); register_after = sym (closed-refused _ _ _ (refused c)); }
+returns-in-Refused c = record { owed = sym (refused c); register_after = sym (closed-refused _ _ _ (refused c)) }
 
 pub returns-in-Total : goal.returns-in-Total
 returns-in-Total c =
     let e = settled (goal.at.returns-in-Total c).In-Total in
-    record { owed = sym e; register_after = c.without.ensures ∙ sym (closed-total _ _ _ e); }
+    record { owed = sym e; register_after = c.without.ensures ∙ sym (closed-total _ _ _ e) }

@@ -12,7 +12,7 @@ rates c =
 
 pub lift_rated-requires : goal.lift_rated-requires
 lift_rated-requires c =
-    let r = rates (goal.at.lift_rated-requires c).In-Rating in record { set_accepted = r.acc; rated = r.rating; }
+    let r = rates (goal.at.lift_rated-requires c).In-Rating in record { set_accepted = r.acc; rated = r.rating }
 
 pub returns-in-Rating : goal.returns-in-Rating
 returns-in-Rating c = from-rated _ _ _ _ _ _ _ (rates (goal.at.returns-in-Rating c).In-Rating) c.lift_rated.ensures

@@ -25,7 +25,7 @@ pub gains_at-gains-requires : goal.gains_at-gains-requires
 gains_at-gains-requires c =
     let p = c.requires in
     let a = asks-gains _ _ p.set_accepted _ p.target_in_range p.better _ c.numbers_of-n.ensures _ c.position_at-p.ensures in
-    record { bands_bound = a.0; set_accepted = a.1.0; each_entry = a.1.1.0; p_bound = a.1.1.1; }
+    record { bands_bound = a.0; set_accepted = a.1.0; each_entry = a.1.1.0; p_bound = a.1.1.1 }
 
 pub overflow_sub-gains : goal.overflow_sub-gains
 overflow_sub-gains c = (done (goal.at.overflow_sub-gains c).After-gains_at-gains).over
@@ -33,7 +33,7 @@ overflow_sub-gains c = (done (goal.at.overflow_sub-gains c).After-gains_at-gains
 pub fill-requires : goal.fill-requires
 fill-requires c =
     let d = done (goal.at.fill-requires c).After-gains_at-gains in
-    record { bounded = d.bounded; room = d.fits; }
+    record { bounded = d.bounded; room = d.fits }
 
 pub returns : goal.returns
 returns c =

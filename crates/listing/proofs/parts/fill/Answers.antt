@@ -33,11 +33,11 @@ loop-more-init c =
 
 pub put_sets-count-requires : goal.put_sets-count-requires
 put_sets-count-requires c = record {
-      more_bound = omega arith;
-      part_of = no_part _;
-      bounded = c.requires.bounded;
-      room = (turned (goal.at.put_sets-count-requires c).In-loop-more).lent;
-    }
+  more_bound = omega arith;
+  part_of = no_part _;
+  bounded = c.requires.bounded;
+  room = (turned (goal.at.put_sets-count-requires c).In-loop-more).lent;
+}
 
 pub loop-more-preserved : goal.loop-more-preserved
 loop-more-preserved c =
@@ -47,4 +47,4 @@ loop-more-preserved c =
 pub returns : goal.returns
 returns c =
     let a = ended _ _ _ _ _ c.requires.room c.loop-more.invariant (larger-end _ _ _ _ c.loop-more-test.false) in
-    record { value = a.0; out_after = a.1; }
+    record { value = a.0; out_after = a.1 }

@@ -38,7 +38,7 @@ pub returns-then-need-part : goal.returns-then-need-part
 returns-then-need-part c =
     let a = c.args in
     let e = sym (last_none (at a.gains.now) a.need a.bands _ _ _ _ c.requires.part_of c.requires.bounded.bands c.if-need-part.true) in
-    record { value = ap length e; out_after = ap (λ (l : List ℕ). front l a.out.now) e; }
+    record { value = ap length e; out_after = ap (λ (l : List ℕ). front l a.out.now) e }
 
 pub overflow_add-bound : goal.overflow_add-bound
 overflow_add-bound c = omega (arith, c.requires.bounded.needed, least-small _ _ _ _ _ c.requires.part_of)
@@ -56,19 +56,18 @@ bounds-out-count c =
 pub loop-i-preserved : goal.loop-i-preserved
 loop-i-preserved c =
     let l = c.loop-i in
-    let b = (goal.at.loop-i-preserved c).In-loop-i in
-    (
+    let b = (goal.at.loop-i-preserved c).In-loop-i in (
       omega (arith, l.invariant.0),
       elim c.if-left-gains.branch [
-        then-left-gains+then-gains-i w ↦
+        | then-left-gains+then-gains-i w ↦
             rw (w.count-is, w.out-is, mask_is c.args.part.mask l.i (in-word b))
             (one_written _ _ _ (word b) l.count l.out c.requires.room (listed b w.if-left-gains.true w.if-gains-i.true).left)
-      | then-left-gains+else-gains-i w ↦ rw (w.count-is, w.out-is) (turned b [] ((last b).idle w.if-gains-i.false)).left
-      | else-left-gains w ↦ rw (w.count-is, w.out-is) (turned b [] ((last b).short w.if-left-gains.false)).left
+        | then-left-gains+else-gains-i w ↦ rw (w.count-is, w.out-is) (turned b [] ((last b).idle w.if-gains-i.false)).left
+        | else-left-gains w ↦ rw (w.count-is, w.out-is) (turned b [] ((last b).short w.if-left-gains.false)).left
       ],
     )
 
 pub returns : goal.returns
 returns c =
     let a = ended _ _ _ _ _ c.requires.room c.loop-i.invariant.1 (joined_end _ _ _ 0 _ _ c.loop-i-test.false) in
-    record { value = a.0; out_after = a.1; }
+    record { value = a.0; out_after = a.1 }

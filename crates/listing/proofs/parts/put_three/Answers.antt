@@ -47,7 +47,7 @@ joined-longer-requires c =
 pub put_two-count-requires : goal.put_two-count-requires
 put_two-count-requires c =
     let t = (goal.at.put_two-count-requires c).After-joined-longer in
-    record { part_of = longer t; bounded = c.requires.bounded; room = (turned t).lent; }
+    record { part_of = longer t; bounded = c.requires.bounded; room = (turned t).lent }
 
 pub loop-i-preserved : goal.loop-i-preserved
 loop-i-preserved c =
@@ -59,4 +59,4 @@ loop-i-preserved c =
 pub returns : goal.returns
 returns c =
     let a = ended _ _ _ _ _ c.requires.room c.loop-i.invariant.1 (joined_end _ _ _ 2 _ _ c.loop-i-test.false) in
-    record { value = a.0; out_after = a.1; }
+    record { value = a.0; out_after = a.1 }

@@ -15,7 +15,7 @@ loop-j-init c = made_none _ _ _ _ _
 
 -- what the mark adds
 weighed : (c : After-weight-limits)
-    → 
+    →
     let a = c.args in
     c.weight-limits.result ≡ weight_of (mark_at a.marks a.step a.stride c.loop-j.j) c.loop-j.j
 weighed c = c.weight-limits.ensures ∙ ap (λ (b : Bool). weight_of b c.loop-j.j) c.marked_of_three.ensures

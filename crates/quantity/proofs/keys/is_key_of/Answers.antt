@@ -27,12 +27,11 @@ pub returns-then-not-is_key : goal.returns-then-not-is_key
 returns-then-not-is_key c = sym (all-fails (key (goal.at.returns-then-not-is_key c).At-loop-i) c.loop-i.i (omega arith) (sym c.is_key.ensures ∙ c.if-not-is_key.true)) ∙ shape (goal.at.returns-then-not-is_key c).At-loop-i
 
 pub loop-i-preserved : goal.loop-i-preserved
-loop-i-preserved c =
-    (
-      omega arith,
-      c.loop-i.invariant.1
-          ∙ all_more (key (goal.at.loop-i-preserved c).At-loop-i) c.loop-i.i (omega arith) (sym c.is_key.ensures ∙ c.if-not-is_key.false),
-    )
+loop-i-preserved c = (
+  omega arith,
+  c.loop-i.invariant.1
+      ∙ all_more (key (goal.at.loop-i-preserved c).At-loop-i) c.loop-i.i (omega arith) (sym c.is_key.ensures ∙ c.if-not-is_key.false),
+)
 
 pub returns : goal.returns
 returns c = sym (all-ends (key (goal.at.returns c).At-loop-i) c.loop-i.i (omega arith)) ∙ shape (goal.at.returns c).At-loop-i

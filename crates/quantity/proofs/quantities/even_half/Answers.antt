@@ -6,7 +6,7 @@ use Rattle.quantity.proofs.quantities.even_half.Goals as goal
 pub returns : goal.returns
 returns c =
     even-half-unique _ _ (record {
-  low = omega arith;
-  high = omega arith;
-  tie = λ e. omega arith;
-})
+      low = omega arith;
+      high = omega arith;
+      tie = λ e. omega arith;
+    })

@@ -18,7 +18,6 @@ most s = rw s.requires.bands_of_kind (count_most (count-of s.args.kind))
 -- the sum stays small
 small : (c : After-sum) → c.sum.result ≤ bands_of c.args.kind * 4500
 small c =
-    
     subst (λ (n : ℕ). c.sum.result ≤ n * 4500) c.requires.bands_of_kind
     (omega (arith, c.sum.ensures, sum_bound (at c.args.levels.now) 4500 c.args.bands c.requires.each_small))
 

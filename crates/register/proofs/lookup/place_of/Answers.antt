@@ -13,11 +13,10 @@ pub loop-i-preserved : goal.loop-i-preserved
 loop-i-preserved c =
     let r = c.args.register in
     let i = c.loop-i.i in
-    let m = c.loop-i.invariant.1 in
-    (
+    let m = c.loop-i.invariant.1 in (
       omega arith,
       elim c.if-words-i.branch [
-        then-words-i+else-same_key w ↦ missed_more r c.args.e i m (sym w.same_key.ensures ∙ w.if-same_key.false)
-      | else-words-i w ↦ missed-word r _ i _ _ (c.requires.words_of i (omega arith)) c.requires.n_bound.2 w.if-words-i.false m
+        | then-words-i+else-same_key w ↦ missed_more r c.args.e i m (sym w.same_key.ensures ∙ w.if-same_key.false)
+        | else-words-i w ↦ missed-word r _ i _ _ (c.requires.words_of i (omega arith)) c.requires.n_bound.2 w.if-words-i.false m
       ],
     )

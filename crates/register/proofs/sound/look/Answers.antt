@@ -39,10 +39,10 @@ word_of-w-requires c = short (goal.at.word_of-w-requires c).Else-not-entry_ok
 
 pub place_of-requires : goal.place_of-requires
 place_of-requires c = record {
-      n_bound = (omega arith, short (goal.at.place_of-requires c).Else-not-entry_ok, c.word_of-w.ensures);
-      short = shorts c.args.register c.loop-i.i c.loop-i.invariant.1;
-      words_of = λ j h. c.loop-i.invariant.2.same j h;
-    }
+  n_bound = (omega arith, short (goal.at.place_of-requires c).Else-not-entry_ok, c.word_of-w.ensures);
+  short = shorts c.args.register c.loop-i.i c.loop-i.invariant.1;
+  words_of = λ j h. c.loop-i.invariant.2.same j h;
+}
 
 pub returns-then-place_of-i : goal.returns-then-place_of-i
 returns-then-place_of-i c =
@@ -67,8 +67,8 @@ loop-i-preserved c =
       all_more _ l.i l.invariant.1 (good (goal.at.loop-i-preserved c).Else-not-entry_ok),
       agreed-set 0 _ 512 l.words l.i w.result (omega arith) w.ensures l.invariant.2,
       met-more _ l.met l.i w.result w.ensures l.invariant.3 (
-        elim c.if-met-slot-eq1.branch [
-          then-met-slot-eq1+else-place_of-i u ↦ u.place_of.ensures.missed u.if-place_of-i.false
-        | else-met-slot-eq1 u ↦ met-apart _ l.met l.i _ w.ensures l.invariant.3 u.if-met-slot-eq1.false
-        ]),
+          elim c.if-met-slot-eq1.branch [
+            | then-met-slot-eq1+else-place_of-i u ↦ u.place_of.ensures.missed u.if-place_of-i.false
+            | else-met-slot-eq1 u ↦ met-apart _ l.met l.i _ w.ensures l.invariant.3 u.if-met-slot-eq1.false
+          ]),
     )

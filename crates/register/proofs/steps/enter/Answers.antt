@@ -38,19 +38,19 @@ pub returns-then-not-looked : goal.returns-then-not-looked
 returns-then-not-looked c =
     let l = c.look-looked in
     let d = due-damaged _ _ (sym l.ensures.right ∙ not-true l.result.sound c.if-not-looked.true) in
-    let a = step-refused _ _ _ _ c.refuse.ensures d in record { billed = a.0; register_after = a.1; }
+    let a = step-refused _ _ _ _ c.refuse.ensures d in record { billed = a.0; register_after = a.1 }
 
 pub returns-then-not-is_key_of : goal.returns-then-not-is_key_of
 returns-then-not-is_key_of c =
     let w = whole (goal.at.returns-then-not-is_key_of c).Else-not-looked in
     let d = due-shape _ _ w (sym c.is_key_of.ensures ∙ c.if-not-is_key_of.true) in
-    let a = step-refused _ _ _ _ c.refuse-then-not-is_key_of.ensures d in record { billed = a.0; register_after = a.1; }
+    let a = step-refused _ _ _ _ c.refuse-then-not-is_key_of.ensures d in record { billed = a.0; register_after = a.1 }
 
 pub returns-then-not-in_range : goal.returns-then-not-in_range
 returns-then-not-in_range c =
     let r = rated (goal.at.returns-then-not-in_range c).In-Rating in
     let d = due-price _ _ r.0 r.1 _ r.2 (sym c.in_range.ensures ∙ c.if-not-in_range.true) in
-    let a = step-refused _ _ _ _ c.refuse-then-not-in_range.ensures d in record { billed = a.0; register_after = a.1; }
+    let a = step-refused _ _ _ _ c.refuse-then-not-in_range.ensures d in record { billed = a.0; register_after = a.1 }
 
 pub entry_of-requires : goal.entry_of-requires
 entry_of-requires c = (key-shape _ (shaped (goal.at.entry_of-requires c).Else-not-is_key_of).1).most
@@ -69,7 +69,7 @@ pub returns-in-Refused : goal.returns-in-Refused
 returns-in-Refused c =
     let k = shaped (goal.at.returns-in-Refused c).Else-not-is_key_of in
     let d = due-refused _ _ k.0 k.1 _ (sym c.rate.ensures ∙ c.in-Refused.is) in
-    let a = step-refused _ _ _ _ c.refuse-in-Refused.ensures d in record { billed = a.0; register_after = a.1; }
+    let a = step-refused _ _ _ _ c.refuse-in-Refused.ensures d in record { billed = a.0; register_after = a.1 }
 
 pub returns-else-not-in_range : goal.returns-else-not-in_range
 returns-else-not-in_range c =
@@ -77,4 +77,4 @@ returns-else-not-in_range c =
     let r = rated (goal.at.returns-else-not-in_range c).In-Rating in
     let d = due-placed _ x r.0 r.1 _ r.2 (sym c.in_range.ensures ∙ c.if-not-in_range.false) in
     let p = c.place.ensures in
-    let a = step-placed _ x _ _ _ c.entry_of.ensures d p.billed p.register_after in record { billed = a.0; register_after = a.1; }
+    let a = step-placed _ x _ _ _ c.entry_of.ensures d p.billed p.register_after in record { billed = a.0; register_after = a.1 }

@@ -23,10 +23,10 @@ missed c = c.place_of-at.ensures.missed c.if-at-count.false
 
 pub place_of-at-requires : goal.place_of-at-requires
 place_of-at-requires c = record {
-      n_bound = (sound-most _ c.requires.is_sound, c.requires.length_bound.0, c.word_of.ensures);
-      short = sound-short _ c.requires.is_sound;
-      words_of = c.requires.words_of;
-    }
+  n_bound = (sound-most _ c.requires.is_sound, c.requires.length_bound.0, c.word_of.ensures);
+  short = sound-short _ c.requires.is_sound;
+  words_of = c.requires.words_of;
+}
 
 pub offset_bounds-register-at : goal.offset_bounds-register-at
 offset_bounds-register-at c = omega (arith, most (goal.at.offset_bounds-register-at c).After-place_of-at)
@@ -39,20 +39,20 @@ returns-then-same_bands c =
     let a = c.args in
     let f = found (goal.at.returns-then-same_bands c).Then-at-count in
     rw (due-same a.register a.e a.sheet _ c.if-at-count.true f (sym c.same_bands.ensures ∙ c.if-same_bands.true))
-    record { billed = refl; register_after = refl; }
+    record { billed = refl; register_after = refl }
 
 pub returns-then-at-count : goal.returns-then-at-count
 returns-then-at-count c =
     let f = found (goal.at.returns-then-at-count c).Then-at-count in
     let d = due-other _ _ _ _ c.if-at-count.true f c.requires.is_sound (sym c.same_bands.ensures ∙ c.if-same_bands.false) in
-    let a = refused-by _ _ _ _ _ _ c.refuse.ensures d in record { billed = a.0; register_after = a.1; }
+    let a = refused-by _ _ _ _ _ _ c.refuse.ensures d in record { billed = a.0; register_after = a.1 }
 
 pub returns-then-count-lt512 : goal.returns-then-count-lt512
 returns-then-count-lt512 c =
     let m = missed (goal.at.returns-then-count-lt512 c).Else-at-count in
-    rw (due-new c.args.register _ c.args.sheet m c.if-count-lt512.true) record { billed = refl; register_after = c.with_entry.ensures; }
+    rw (due-new c.args.register _ c.args.sheet m c.if-count-lt512.true) record { billed = refl; register_after = c.with_entry.ensures }
 
 pub returns : goal.returns
 returns c =
     let d = due-full _ _ _ (missed (goal.at.returns c).Else-at-count) c.if-count-lt512.false in
-    let a = refused-by _ _ _ _ _ _ c.refuse-2.ensures d in record { billed = a.0; register_after = a.1; }
+    let a = refused-by _ _ _ _ _ _ c.refuse-2.ensures d in record { billed = a.0; register_after = a.1 }

@@ -40,11 +40,11 @@ loop-band-preserved c =
     let g = first (goal.at.loop-band-preserved c).Joined-given in
     elim j.branch [
       | then-count-lt16 w ↦
-        again-few c.loop-band.invariant b.result tab b.ensures c.if-next-eq0.false j.values j.marks j.weight c.match-given.fault g
-        w.weight_of-marks.result w.weight_of-marks.ensures w.if-count-lt16.true w.values-is w.marks-is w.weight-is
+          again-few c.loop-band.invariant b.result tab b.ensures c.if-next-eq0.false j.values j.marks j.weight c.match-given.fault g
+          w.weight_of-marks.result w.weight_of-marks.ensures w.if-count-lt16.true w.values-is w.marks-is w.weight-is
       | else-count-lt16 w ↦
-        again-many c.loop-band.invariant b.result tab b.ensures c.if-next-eq0.false j.values j.marks j.weight c.match-given.fault g
-        w.if-count-lt16.false w.values-is w.marks-is w.weight-is
+          again-many c.loop-band.invariant b.result tab b.ensures c.if-next-eq0.false j.values j.marks j.weight c.match-given.fault g
+          w.if-count-lt16.false w.values-is w.marks-is w.weight-is
     ]
 
 pub returns-then-byte-ne10 : goal.returns-then-byte-ne10

@@ -48,13 +48,13 @@ loop-i-init c =
 
 pub lacking-now-requires : goal.lacking-now-requires
 lacking-now-requires c =
-    let t = (goal.at.lacking-now-requires c).In-loop-i in record { ranged = value_in t; entries = entry_in t; }
+    let t = (goal.at.lacking-now-requires c).In-loop-i in record { ranged = value_in t; entries = entry_in t }
 
 pub lacking-lifted-requires : goal.lacking-lifted-requires
 lacking-lifted-requires c = record {
-      ranged = ap in_range c.best-highest.ensures ∙ best-in c.args.airborne;
-      entries = entry_in (goal.at.lacking-lifted-requires c).In-loop-i;
-    }
+  ranged = ap in_range c.best-highest.ensures ∙ best-in c.args.airborne;
+  entries = entry_in (goal.at.lacking-lifted-requires c).In-loop-i;
+}
 
 pub overflow_sub-each : goal.overflow_sub-each
 overflow_sub-each c =

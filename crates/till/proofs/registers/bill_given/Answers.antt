@@ -41,7 +41,7 @@ unfolding bill_left
 returns-then-out-lt7 c =
     let g = c.give_billed.ensures in
     let a = gave-short 7 _ _ _ _ _ _ _ (answer (goal.at.returns-then-out-lt7 c).After-enter-step) (g.value, g.out_after) (omega arith) in
-    record { number = a.0; register_after = a.1.0; out_after = a.1.1; }
+    record { number = a.0; register_after = a.1.0; out_after = a.1.1 }
 
 pub give_billed-requires-2 : goal.give_billed-requires-2
 give_billed-requires-2 c = fits (goal.at.give_billed-requires-2 c).After-enter-step
@@ -52,4 +52,4 @@ returns c =
     let t = (goal.at.returns c).After-enter-step in
     let g = c.give_billed-2.ensures in
     let a = gave-room 7 _ _ _ _ _ _ _ (answer t) (g.value, g.out_after) _ (left t) (omega arith) in
-    record { number = a.0; register_after = a.1.0; out_after = a.1.1; }
+    record { number = a.0; register_after = a.1.0; out_after = a.1.1 }

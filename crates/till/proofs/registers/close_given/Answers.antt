@@ -23,7 +23,7 @@ unfolding close_left
 returns-then-out-lt1 c =
     let g = c.give_owed.ensures in
     let a = gave-short 1 _ _ _ _ _ _ _ (answer (goal.at.returns-then-out-lt1 c).After-close_for-step) (g.value, g.out_after) (omega arith) in
-    record { number = a.0; register_after = a.1.0; out_after = a.1.1; }
+    record { number = a.0; register_after = a.1.0; out_after = a.1.1 }
 
 pub give_owed-requires-2 : goal.give_owed-requires-2
 give_owed-requires-2 c = fits (goal.at.give_owed-requires-2 c).After-close_for-step
@@ -34,4 +34,4 @@ returns c =
     let g = c.give_owed-2.ensures in
     let s = c.close_for-step.ensures.register_after in
     let a = gave-room 1 _ _ _ _ _ _ _ (answer (goal.at.returns c).After-close_for-step) (g.value, g.out_after) _ s (omega arith) in
-    record { number = a.0; register_after = a.1.0; out_after = a.1.1; }
+    record { number = a.0; register_after = a.1.0; out_after = a.1.1 }

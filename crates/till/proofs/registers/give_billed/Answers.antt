@@ -16,4 +16,4 @@ returns-in-Charged c =
     let t = c.sheet_numbers-answer in
     let f = fits (goal.at.returns-in-Charged c).In-Charged in
     let b = bill-given _ _ _ c.in-Charged.is t.result _ t.ensures.numbers t.ensures.result_len (as-pos _ (omega arith)) in
-    let a = given _ _ _ _ _ b (c.give.ensures.value, c.give.ensures.out_after) in record { value = a.0; out_after = a.1; }
+    let a = given _ _ _ _ _ b (c.give.ensures.value, c.give.ensures.out_after) in record { value = a.0; out_after = a.1 }

@@ -13,4 +13,4 @@ pub returns : goal.returns
 unfolding owed_given
 returns c =
     let g = c.give_owed.ensures in
-    let a = given _ _ _ _ _ (ap owed_answer c.owed_by.ensures) (g.value, g.out_after) in record { value = a.0; out_after = a.1; }
+    let a = given _ _ _ _ _ (ap owed_answer c.owed_by.ensures) (g.value, g.out_after) in record { value = a.0; out_after = a.1 }

@@ -7,9 +7,9 @@ pub returns : goal.returns
 unfolding numbers_of
 returns c =
     λ i. record {
-  bands = 16;
-  limit = 320;
-  origin = record { 0 = 168 };
-  airborne = false;
-  entries = c.reference.ensures i;
-}
+      bands = 16;
+      limit = 320;
+      origin = record { 0 = 168 };
+      airborne = false;
+      entries = c.reference.ensures i;
+    }
