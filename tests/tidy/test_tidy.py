@@ -41,7 +41,7 @@ FILES = {
         "pub forgotten : doubled\nforgotten = forgotten\n"
     ),
     "crates/top/proofs/four/Invariants.antt": (
-        "use Rattle.top.proofs.four.Given as goal\n\n"
+        "-- `top::four` ends.\nuse Rattle.top.proofs.four.Given as goal\n\n"
         "abbrev pub invariant-loop : goal.invariant-loop\ninvariant-loop l = record {\n  within : l;\n  beyond :\n    l;\n}\n"
     ),
     "crates/top/proofs/four/Answers.antt": "-- `top::four` meets its contract.\npub returns : goal.returns\nreturns c = c\n",

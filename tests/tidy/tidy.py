@@ -10,7 +10,7 @@ Six lists, each line with its file and place:
 - a name that a logic file imports, or that `ghost use` brings in for contracts, and does not use;
 - a function of the code (.rt) that no other function calls, unless it is open to callers of `desk` or `desk_c`;
 - a crate that crates.txt lists for a crate whose files never name it;
-- a proof of a function whose first line names another function, and a comment that gives a position in the code;
+- a proof of a function whose first line does not name that function, and a comment that gives a position in the code;
 - a name in code marks on the page docs/PROOFS.md that stands nowhere in the crates.
 
 It reads words, not meanings: a name counts as cited where the same word stands in a place that could mean it.
@@ -179,7 +179,7 @@ def headers_wrong(files):
     for file in files:
         if file.is_proof:
             name = "::".join([file.crate, *(part.lstrip("+") for part in file.path.parts[3:-1])])
-            if file.text.startswith("-- `") and not file.text.startswith(f"-- `{name}`"):
+            if not file.text.startswith(f"-- `{name}`"):
                 yield f"{file.path}:1: the first line does not name {name}"
         for number, line in enumerate(file.text.split("\n"), 1):
             if re.search(r"--.*\.rt:\d+", line):

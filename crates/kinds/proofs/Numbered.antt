@@ -3,9 +3,17 @@ use mathlib.Core.Path.{◌≡◌, refl, ap}
 use Prim.Native.Nat.{ℕ, zero, suc}
 use Rattle.kinds.specs.declared.kinds.Kind.{Kind}
 use Rattle.kinds.specs.declared.kinds.Kind.TheVariants.{A3, A1, I3, I1}
-use Rattle.kinds.specs.declared.kinds.Named.TheVariants.{Is}
+use Rattle.kinds.specs.declared.kinds.Named.TheVariants.{Is, Unknown}
 use Rattle.kinds.specs.Kinds.{kind_of, kind_number}
 use Rattle.laws.proofs.Tests.{clash}
+
+-- a number that is none of the four
+pub unknown : (n : ℕ) → (n ≡ 0 → ⊥) → (n ≡ 1 → ⊥) → (n ≡ 2 → ⊥) → (n ≡ 3 → ⊥) → Unknown ≡ kind_of n
+unknown zero a b c d = absurd (a refl)
+unknown (suc zero) a b c d = absurd (b refl)
+unknown (suc (suc zero)) a b c d = absurd (c refl)
+unknown (suc (suc (suc zero))) a b c d = absurd (d refl)
+unknown (suc (suc (suc (suc n)))) a b c d = refl
 
 -- there and back
 pub kind-of-number : (k : Kind) → kind_of (kind_number k) ≡ Is k

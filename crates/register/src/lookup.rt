@@ -7,11 +7,11 @@ use crate::registers::Register;
 use entry::{Entry, same_key};
 
 // The place of an entry's customer and key among the first n; n where they are not there.
-pub fn place_of(register: Register, words: &[u32; 512], n: usize, e: Entry, w: u32) -> usize
+pub fn place_of(register: &Register, words: &[u32; 512], n: usize, e: Entry, w: u32) -> usize
     requires n_bound { (n ≤ 512) × (e.length ≤ 32) × (w ≡ word_of e) }
-    requires short { Short register n }
-    requires words_of { WordsOf register n words.now }
-    ensures { PlaceOf register n e result }
+    requires short { Short register.now n }
+    requires words_of { WordsOf register.now n words.now }
+    ensures { PlaceOf register.now n e result }
 {
     let mut i = 0;
     while i < n {

@@ -15,8 +15,8 @@ pub struct Looked {
 
 // Looks through a register, in one pass: each entry is tested, its word is taken, and where the remainder of the word was met
 // before, its customer and key are sought among the entries before it.
-pub fn look(register: Register) -> Looked
-    ensures { LookedAt register result.sound result.words }
+pub fn look(register: &Register) -> Looked
+    ensures { LookedAt register.now result.sound result.words }
 {
     let count = register.count;
     let mut words = [0u32; 512];

@@ -27,11 +27,11 @@ pub struct Step {
     pub billed: Billed,
 }
 
-fn refuse(register: Register, refusal: Refusal) -> Step
-    ensures { result ≡ record { register = register; billed = Billed.Refused refusal } }
+fn refuse(register: &Register, refusal: Refusal) -> Step
+    ensures { result ≡ record { register = register.now; billed = Billed.Refused refusal } }
 {
     Step {
-        register,
+        register: *register,
         billed: Billed::Refused(refusal),
     }
 }
@@ -57,7 +57,7 @@ fn place(register: Register, words: [u32; 512], e: Entry, kind: Kind, sheet: She
     ensures register_after { result.register ≡ after_by (place_due register e sheet) register e }
 {
     let count = register.count;
-    let at = place_of(register, &words, count, e, word_of(e));
+    let at = place_of(&register, &words, count, e, word_of(e));
     if at < count {
         let kept = register.entries[at];
         if same_bands(kept, e, kind) {
@@ -66,7 +66,7 @@ fn place(register: Register, words: [u32; 512], e: Entry, kind: Kind, sheet: She
                 billed: Billed::Charged(sheet, Fen(0)),
             };
         }
-        return refuse(register, Refusal::OtherBands);
+        return refuse(&register, Refusal::OtherBands);
     }
     if count < 512 {
         let price = e.price;
@@ -75,7 +75,7 @@ fn place(register: Register, words: [u32; 512], e: Entry, kind: Kind, sheet: She
             billed: Billed::Charged(sheet, price),
         };
     }
-    refuse(register, Refusal::RegisterFull)
+    refuse(&register, Refusal::RegisterFull)
 }
 
 // One call: 19, then 11, then all of rating, then 16, 17, 18; else the sheet, and what is charged now.
@@ -90,18 +90,18 @@ pub fn enter(
     ensures billed { result.billed ≡ billed_of register (call_of customer key.now kind set price.0) }
     ensures register_after { result.register ≡ after_of register (call_of customer key.now kind set price.0) }
 {
-    let looked = look(register);
+    let looked = look(&register);
     if !looked.sound {
-        return refuse(register, Refusal::RegisterDamaged);
+        return refuse(&register, Refusal::RegisterDamaged);
     }
     if !is_key_of(key) {
-        return refuse(register, Refusal::NotARequest);
+        return refuse(&register, Refusal::NotARequest);
     }
     match rate(kind, set) {
-        Rated::Refused(refusal) => refuse(register, refusal),
+        Rated::Refused(refusal) => refuse(&register, refusal),
         Rated::Rating(sheet) => {
             if !price.in_range() {
-                return refuse(register, Refusal::PriceRange);
+                return refuse(&register, Refusal::PriceRange);
             }
             let words = looked.words;
             place(

@@ -1,3 +1,4 @@
+-- `cases::main` is safe and ends: the turns run out. Assumes nothing.
 use Rattle.cases.proofs.main.Given as goal
 
 abbrev pub decreases-loop-turns : goal.decreases-loop-turns

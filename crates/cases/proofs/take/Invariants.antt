@@ -1,3 +1,4 @@
+-- `cases::take` is safe and ends: each byte is passed once. Assumes nothing.
 use Rattle.std.proofs.Common.{◌-◌, ◌≤◌, length}
 use Rattle.cases.proofs.take.Given as goal
 

@@ -1,4 +1,4 @@
--- The block call's promise, with the bytes that it used passed over.
+-- `rate::answer` meets its contract: the block call's promise, with the bytes that it used passed over. Assumes nothing.
 use Rattle.std.proofs.Common.{refl, arith, length}
 use Rattle.rate.specs.Waits.{block_at}
 use Rattle.rate.proofs.Moves.{waiting-length, left_over, text-front}

@@ -1,4 +1,4 @@
--- The bytes that wait stand in front, and what is read goes into the tail.
+-- `rate::refill` meets its contract: the bytes that wait stand in front, and what is read goes into the tail. Assumes nothing.
 use borrow.Rule.Slice.PartMut.{same_len_mid}
 use Rattle.std.proofs.Common.{ℕ, List, [], ◌≡◌, sym, ap, subst, take, length-take-le, ◌+◌, ◌-◌, ◌≤◌, ◌∙◌, arith, length}
 use Rattle.std.specs.Io.KnownBytes.{Consumes}

@@ -1,3 +1,4 @@
+-- `rate::run` meets its contract: a step more for each turn, and at the end all that was read is answered. Assumes nothing.
 use Rattle.std.proofs.Common.{◌≡◌, ℕ, suc, ◌-◌, ◌≤◌, ◌<◌, Bool, true, false, not, refl, subst, sym, arith, length}
 use Rattle.std.specs.Io.KnownBytes.{Appends}
 use Rattle.rate.specs.declared.State.{State}

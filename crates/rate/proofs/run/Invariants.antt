@@ -1,5 +1,5 @@
--- As many steps as turns are used up have led to this state and this buffer, and to what is left of the input and stands in the
--- output. The measure is the turns left.
+-- `rate::run`'s loop: as many steps as turns are used up have led to this state and this buffer, and to what is left of the
+-- input and stands in the output. The measure is the turns left.
 use Rattle.std.proofs.Common.{◌-◌, ◌≤◌, length}
 use Rattle.rate.specs.Waits.{Waits, most_turns}
 use Rattle.rate.proofs.Streams.{Carried}

@@ -1,3 +1,4 @@
+-- `rate::shift` meets its contract: when all that waits has been moved, the rest is as it was. Assumes nothing.
 use Rattle.std.proofs.Common.{◌≡◌, ◌∙◌, ◌-◌, sym, ap, arith, set, get_or}
 use Rattle.rate.proofs.Moves.{moved, moved_more}
 use Rattle.rate.proofs.shift.Goals as goal

@@ -1,4 +1,5 @@
--- The first `to` of the bytes that wait stand in front, and the place written lies before the place read.
+-- `rate::shift`'s loop: the first `to` of the bytes that wait stand in front, and the place written lies before the place
+-- read.
 use Rattle.std.proofs.Common.{◌≡◌, ◌+◌, ◌-◌, ◌≤◌}
 use Rattle.rate.proofs.Moves.{moved}
 use Rattle.rate.proofs.shift.Given as goal

@@ -7,11 +7,11 @@ use Rattle.register.proofs.lookup.place_of.Goals as goal
 use Rattle.register.proofs.lookup.place_of.Goals.{then-words-i+else-same_key, else-words-i}
 
 pub loop-i-init : goal.loop-i-init
-loop-i-init c = (omega arith, missed-none c.args.register c.args.e)
+loop-i-init c = (omega arith, missed-none c.args.register.now c.args.e)
 
 pub loop-i-preserved : goal.loop-i-preserved
 loop-i-preserved c =
-    let r = c.args.register in
+    let r = c.args.register.now in
     let i = c.loop-i.i in
     let m = c.loop-i.invariant.1 in (
       omega arith,

@@ -1,3 +1,4 @@
+-- `vectors::lists::list_from` is safe and ends: the places of its arrays are passed once. Assumes nothing.
 use Rattle.std.proofs.Common.{◌-◌, ◌≤◌}
 use Rattle.vectors.proofs.lists.list_from.Given as goal
 

@@ -1,4 +1,4 @@
--- A pattern above the infinities is a NaN's and was turned away.
+-- `vectors::numbers::float` is safe: a pattern above the infinities is a NaN's and was turned away. Assumes nothing.
 use Rattle.vectors.proofs.Patterns.{no_nan}
 use Rattle.vectors.proofs.numbers.float.Goals as goal
 

@@ -1,3 +1,4 @@
+-- `vectors::places::end_of` meets its contract: it begins at the length and goes down. Assumes nothing.
 use Rattle.std.proofs.Common.{◌≤◌, length}
 use Rattle.vectors.proofs.places.end_of.Given as goal
 

@@ -1,3 +1,4 @@
+-- `vectors::places::numbers_of` is safe and ends: the places of its arrays are passed once. Assumes nothing.
 use Rattle.std.proofs.Common.{◌-◌, ◌≤◌}
 use Rattle.vectors.proofs.places.numbers_of.Given as goal
 

@@ -1,3 +1,4 @@
+-- `vectors::places::print_places` is safe and ends: the places before the end are passed once. Assumes nothing.
 use Rattle.std.proofs.Common.{◌-◌, ◌≤◌}
 use Rattle.vectors.proofs.places.print_places.Given as goal
 

@@ -1,4 +1,4 @@
--- A count is small.
+-- `vectors::stated::lift_into` is safe: a count is small. Assumes nothing.
 use Rattle.std.proofs.Common.{sym, arith}
 use Rattle.lift.proofs.Answers.{count_small}
 use Rattle.desk.proofs.Answers.{lifted-one}

@@ -1,4 +1,4 @@
--- A time that is taken is at most 2000 hundredths.
+-- `vectors::times::take_time` is safe: a time that is taken is at most 2000 hundredths. Assumes nothing.
 use Rattle.std.proofs.Common.{sym, arith}
 use Rattle.intake.proofs.Meaning.{time-range}
 use Rattle.vectors.proofs.times.take_time.Goals as goal
