@@ -10,6 +10,7 @@ from pathlib import Path
 ROOT = Path(__file__).resolve().parents[2]
 HEADER = ROOT / "include" / "imbrolt.h"
 EVERY_CALL = Path(__file__).with_name("every_call.c")
+SMALL_STACK = Path(__file__).with_name("small_stack.c")
 NATIVE = ROOT / "target" / "native"
 STRICT = ["-Wall", "-Wextra", "-pedantic", "-Werror", f"-I{HEADER.parent}"]
 
@@ -57,6 +58,16 @@ class Header(unittest.TestCase):
                 for name, compiler in compilers():
                     with self.subTest(f"{name}, {library[0]}"):
                         self.call_all(compiler, library, Path(folder) / "every_call")
+
+    def test_register_calls_keep_within_the_stack_that_the_header_names(self):
+        needed = re.search(r"A thread that calls on one needs (\d+) KB of stack", HEADER.read_text())[1]
+        with tempfile.TemporaryDirectory() as folder:
+            program = Path(folder) / "small_stack"
+            compiler = ["cc", "-std=c99", *STRICT, "-pthread", f"-DSTACK={needed}"]
+            done = run(*compiler, "-o", str(program), str(SMALL_STACK), str(NATIVE / "libimbrolt.a"))
+            self.assertEqual((done.returncode, done.stderr), (0, ""))
+            done = run(str(program))
+            self.assertEqual((done.returncode, done.stdout), (0, ""))
 
     def call_all(self, compiler, library, program):
         done = run(*compiler, "-o", str(program), str(EVERY_CALL), "-x", "none", *library)
