@@ -1,4 +1,5 @@
--- What the program does with its bytes from turn to turn, as far as it can be said without its input and output.
+-- What the program does with its bytes from turn to turn: what can be said without its input and output, and, of a reader whose
+-- bytes are known, what it takes from it.
 use Rattle.std.specs.Prelude.{true, false, List, [], ◌++◌, ◌≡◌, ℕ, suc, ◌-◌, ◌≤◌, ◌<◌, eqb, length, take, drop, Option}
 use Rattle.std.specs.Io.KnownBytes.{Keeps, Consumes, IsAtEnd}
 use Rattle.line.specs.Blocks.{Block, block_of}

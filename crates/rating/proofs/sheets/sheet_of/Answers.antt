@@ -60,16 +60,18 @@ sought : (c : After-sought-accepted) → By c.args.kind c.args.set (entries_of c
 sought c levels =
     sought-by c.args.kind c.args.set c.requires.set_accepted c.numbers_of-n.result c.numbers_of-n.ensures levels c.sought-accepted.ensures
 
-small : (c : After-sought-accepted) → By c.args.kind c.args.set (entries_of c.args.kind) c.by_curve-by_curve.result
-    → c.sought-accepted.result.at.0 < 500
-small c levels = position-small c.args.kind c.args.set c.requires.set_accepted (sought c levels)
+-- what is asked of the origin and of the position, wherever both go
+bounds : (c : After-sought-accepted) → By c.args.kind c.args.set (entries_of c.args.kind) c.by_curve-by_curve.result
+    → (c.numbers_of-n.result.origin.0 < 200) × (c.sought-accepted.result.at.0 < 500)
+bounds c levels = (
+  near c.args.kind c.args.set c.requires.set_accepted c.numbers_of-n.result c.numbers_of-n.ensures,
+  position-small c.args.kind c.args.set c.requires.set_accepted (sought c levels),
+)
 
 pub rating_at-rating-requires : goal.rating_at-rating-requires
 rating_at-rating-requires c =
-    let w = goal.at.rating_at-rating-requires c in (
-      small w.After-sought-accepted (by-curve w.After-by_curve-by_curve),
-      near c.args.kind c.args.set c.requires.set_accepted c.numbers_of-n.result c.numbers_of-n.ensures,
-    )
+    let w = goal.at.rating_at-rating-requires c in
+    let b = bounds w.After-sought-accepted (by-curve w.After-by_curve-by_curve) in (b.1, b.0)
 
 -- ---- the terms
 pub weigh-one-requires : goal.weigh-one-requires
@@ -100,41 +102,23 @@ second-small c levels =
 pub term_of-first-requires : goal.term_of-first-requires
 term_of-first-requires c =
     let w = goal.at.term_of-first-requires c in
-    let one = first_small w.After-weigh-one (by_first w.After-by_first-by_first) in record {
-      tabled = c.requires.tabled;
-      summed = one.0;
-      least_bound = (
-        one.1,
-        near c.args.kind c.args.set c.requires.set_accepted c.numbers_of-n.result c.numbers_of-n.ensures,
-        small w.After-sought-accepted (by-curve w.After-by_curve-by_curve),
-      );
-    }
+    let one = first_small w.After-weigh-one (by_first w.After-by_first-by_first) in
+    let b = bounds w.After-sought-accepted (by-curve w.After-by_curve-by_curve) in
+    record { tabled = c.requires.tabled; summed = one.0; least_bound = (one.1, b.0, b.1) }
 
 pub term_of-requires : goal.term_of-requires
 term_of-requires c =
     let w = goal.at.term_of-requires c in
-    let other = second-small w.After-weigh-other (by-second w.After-by_second-by_second) in record {
-      tabled = c.requires.tabled;
-      summed = other.0;
-      least_bound = (
-        other.1,
-        near c.args.kind c.args.set c.requires.set_accepted c.numbers_of-n.result c.numbers_of-n.ensures,
-        small w.After-sought-accepted (by-curve w.After-by_curve-by_curve),
-      );
-    }
+    let other = second-small w.After-weigh-other (by-second w.After-by_second-by_second) in
+    let b = bounds w.After-sought-accepted (by-curve w.After-by_curve-by_curve) in
+    record { tabled = c.requires.tabled; summed = other.0; least_bound = (other.1, b.0, b.1) }
 
 pub term_of-first-requires-else-n : goal.term_of-first-requires-else-n
 term_of-first-requires-else-n c =
     let w = goal.at.term_of-first-requires-else-n c in
-    let one = first_small w.After-weigh-one (by_first w.After-by_first-by_first) in record {
-      tabled = c.requires.tabled;
-      summed = one.0;
-      least_bound = (
-        one.1,
-        near c.args.kind c.args.set c.requires.set_accepted c.numbers_of-n.result c.numbers_of-n.ensures,
-        small w.After-sought-accepted (by-curve w.After-by_curve-by_curve),
-      );
-    }
+    let one = first_small w.After-weigh-one (by_first w.After-by_first-by_first) in
+    let b = bounds w.After-sought-accepted (by-curve w.After-by_curve-by_curve) in
+    record { tabled = c.requires.tabled; summed = one.0; least_bound = (one.1, b.0, b.1) }
 
 -- ---- the sheet is the defined one, once its terms are
 made : (c : After-weigh-one) → By c.args.kind c.args.set (first_of c.args.kind) c.by_first-by_first.result
