@@ -26,8 +26,6 @@ use Rattle.kinds.specs.Kinds.{airborne, bands_of, limit_of, C, Ctr}
 use Rattle.kinds.specs.Numbers.{weight_by, entries_of, first_of, second_of, start_add, numbers_of, rating_at}
 use Rattle.kinds.proofs.Facts.{count-of, first-fit, second-fit, sound-of}
 use Rattle.rating.specs.declared.sheets.Sheet.{Sheet}
-use Rattle.rating.specs.declared.sheets.Term.{Term}
-use Rattle.rating.specs.declared.sheets.Term.TheVariants.{Given, Absent}
 use Rattle.rating.specs.Curve.{rating_of, shifts_of}
 use Rattle.rating.specs.Terms.{airborne_term}
 use Rattle.rating.specs.Sheets.{decibels, first_by, second_by, sheet_of}
@@ -35,6 +33,7 @@ use Rattle.rating.specs.Found.{SoughtBy, Sought, WeighedOf, rating_by, term_by, 
 use Rattle.rating.proofs.RatedLaws.{bands-are}
 use Rattle.rating.proofs.Meaning.{rating-is, shifts-is, start-below}
 use Rattle.rating.proofs.Weighing.{term-alike, airborne-term, impact-term}
+use Rattle.std.specs.Prelude.{Option, Some, None}
 
 -- an airborne weight, by the parts of its spectrum value
 weight-parts : (L : ℤ) → 200 ≤ weight_by true L → weight_by true L + 10 * P L ≡ 200 + 10 * N L
@@ -95,13 +94,13 @@ module _ (k : Kind) (s : BandSet) (acc : accepted s (bands_of k) ≡ true) where
     first-is = first_by_lem (airborne k) refl
 
     pub second-given : airborne k ≡ true
-        → Given (decibels (half_even (term_of (airborne k) (rating_at k) (level_at (airborne k) s (second_of k)) n p))) ≡ second_by (airborne k) k (band_of s)
+        → Some (decibels (half_even (term_of (airborne k) (rating_at k) (level_at (airborne k) s (second_of k)) n p))) ≡ second_by (airborne k) k (band_of s)
     second-given e =
-        ap (λ (t : Bool). Given (decibels (half_even (term_of t (rating_at k) (level_at t s (second_of k)) n p)))) e
-        ∙ ap (λ (z : ℤ). Given (decibels (half_even z))) (airborne-by (Ctr k) (second_of k) e second_at (second-fit k))
+        ap (λ (t : Bool). Some (decibels (half_even (term_of t (rating_at k) (level_at t s (second_of k)) n p)))) e
+        ∙ ap (λ (z : ℤ). Some (decibels (half_even z))) (airborne-by (Ctr k) (second_of k) e second_at (second-fit k))
         ∙ ap (λ (t : Bool). second_by t k (band_of s)) (sym e)
 
-    pub second-absent : airborne k ≡ false → Absent ≡ second_by (airborne k) k (band_of s)
+    pub second-absent : airborne k ≡ false → None ≡ second_by (airborne k) k (band_of s)
     second-absent e = ap (λ (t : Bool). second_by t k (band_of s)) (sym e)
 
   -- the record is the defined sheet
@@ -184,11 +183,11 @@ module _ (k : Kind) (s : BandSet) (acc : accepted s (bands_of k) ≡ true) where
   position-small w = omega (arith, start-below k s acc, w.distance)
 
 -- the second term: given for airborne, absent for impact
-pub data SecondAt (k : Kind) (m : Numbers) (s : BandSet) (p : ℕ) : Term → Type 0 where
+pub data SecondAt (k : Kind) (m : Numbers) (s : BandSet) (p : ℕ) : Option Decibels → Type 0 where
   given : (d : Decibels) → m.airborne ≡ true
       → d.0 ≡ half_even (term_of m.airborne m.origin.0 (level_at (airborne k) s (second_of k)) m.bands p)
-      → SecondAt k m s p (Given d)
-  absent : m.airborne ≡ false → SecondAt k m s p Absent
+      → SecondAt k m s p (Some d)
+  absent : m.airborne ≡ false → SecondAt k m s p None
 
 pub record MadeAt (k : Kind) (s : BandSet) (p : ℕ) (r : Sheet) (m : Numbers) : Type 0 where
   pub rating : r.rating.0 ≡ rating_by m.airborne m.origin.0 p
@@ -196,9 +195,9 @@ pub record MadeAt (k : Kind) (s : BandSet) (p : ℕ) (r : Sheet) (m : Numbers) :
   pub second : SecondAt k m s p r.second
 
 second_is : (k : Kind) (s : BandSet) → accepted s (bands_of k) ≡ true → (p : ℕ) → rating_of k (band_of s) ≡ rating_by (airborne k) (rating_at k) p
-    → (t : Term) → SecondAt k (numbers_of k) s p t → t ≡ second_by (airborne k) k (band_of s)
+    → (t : Option Decibels) → SecondAt k (numbers_of k) s p t → t ≡ second_by (airborne k) k (band_of s)
 unfolding numbers_of
-second_is k s acc p r t (given d e h) = ap (λ (z : ℤ). Given (decibels z)) h ∙ second-given k s acc p r e
+second_is k s acc p r t (given d e h) = ap (λ (z : ℤ). Some (decibels z)) h ∙ second-given k s acc p r e
 second_is k s acc p r t (absent e) = second-absent k s acc p r e
 
 pub sheet-made : (k : Kind) (s : BandSet) → accepted s (bands_of k) ≡ true → (m : Numbers) → m ≡ numbers_of k → (p : ℕ) (r : Sheet)

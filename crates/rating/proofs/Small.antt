@@ -23,8 +23,6 @@ use Rattle.kinds.specs.Kinds.{airborne, bands_of, limit_of}
 use Rattle.kinds.specs.Numbers.{entries_of, first_of, second_of, start_add, rating_at}
 use Rattle.kinds.proofs.Facts.{count-of, first-fit, second-fit}
 use Rattle.rating.specs.declared.sheets.Sheet.{Sheet}
-use Rattle.rating.specs.declared.sheets.Term.{Term}
-use Rattle.rating.specs.declared.sheets.Rated.TheVariants.{Rating, Refused}
 use Rattle.rating.specs.Curve.{first_from, rating_of, shifts_of, within, shifted, start_of}
 use Rattle.rating.specs.Sheets.{asked, second_by, sheet_of, rated_of, term_of}
 use Rattle.rating.specs.Found.{rating_by, term_of as termAt}
@@ -34,6 +32,8 @@ use Rattle.rating.proofs.Sheeted.{first-is, second-given}
 use Rattle.rating.specs.Bounds.{Small, SmallSheet}
 use Rattle.laws.proofs.Tests.{clash}
 use borrow.Author.Tests.{eqb-true}
+use Rattle.std.specs.Prelude.{Ok, Option}
+use Rattle.quantity.specs.declared.quantities.Decibels.{Decibels}
 
 rating-by : (sign : Bool) (o p : ℕ) → o < 200 → p < 500 → (P (rating_by sign o p) < 500) × (N (rating_by sign o p) < 500)
 rating-by true o p h k =
@@ -94,7 +94,7 @@ module _ (k : Kind) (s : BandSet) (acc : accepted s (bands_of k) ≡ true) where
 
   second-by : (sign : Bool) → airborne k ≡ sign → Small (term_of (second_by sign k (band_of s)))
   second-by true e =
-      subst (λ (t : Term). Small (term_of t)) (second-given k s acc p rating-at e ∙ ap (λ (b : Bool). second_by b k (band_of s)) e)
+      subst (λ (t : Option Decibels). Small (term_of t)) (second-given k s acc p rating-at e ∙ ap (λ (b : Bool). second_by b k (band_of s)) e)
       (term-by (second_of k) (second-fit k))
   second-by false e = (omega arith, omega arith)
 
@@ -116,11 +116,11 @@ pub record RatedBy (k : Kind) (s : BandSet) (sheet : Sheet) : Type 0 where
   pub same : sheet ≡ sheet_of k s
   pub small : SmallSheet sheet
 
-pub rated-by : (k : Kind) (s : BandSet) (sheet : Sheet) → rated_of k s ≡ Rating sheet → RatedBy k s sheet
+pub rated-by : (k : Kind) (s : BandSet) (sheet : Sheet) → rated_of k s ≡ Ok sheet → RatedBy k s sheet
 unfolding rated_of
 rated-by k s sheet e = go (eqb s.len (bands_of k)) (accepted s (bands_of k)) refl refl e
   where
-    go : (a b : Bool) → eqb s.len (bands_of k) ≡ a → accepted s (bands_of k) ≡ b → asked a (asked b (Rating (sheet_of k s)) (Refused BandRange)) (Refused BandCount) ≡ Rating sheet
+    go : (a b : Bool) → eqb s.len (bands_of k) ≡ a → accepted s (bands_of k) ≡ b → asked a (asked b (Ok (sheet_of k s)) BandRange) BandCount ≡ Ok sheet
         → RatedBy k s sheet
     go true true h f g =
         let q : sheet ≡ sheet_of k s = cc in
@@ -129,6 +129,6 @@ rated-by k s sheet e = go (eqb s.len (bands_of k)) (accepted s (bands_of k)) ref
     go false b h f g = clash cc
 
 -- its count of shifts is that of the search
-pub rated-shifts : (k : Kind) (s : BandSet) (sheet : Sheet) → rated_of k s ≡ Rating sheet → sheet.shifts ≤ 500
+pub rated-shifts : (k : Kind) (s : BandSet) (sheet : Sheet) → rated_of k s ≡ Ok sheet → sheet.shifts ≤ 500
 unfolding sheet_of
 rated-shifts k s sheet e = rw (rated-by k s sheet e).same (shifts-most k (band_of s))

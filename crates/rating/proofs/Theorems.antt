@@ -29,13 +29,12 @@ use Rattle.kinds.specs.declared.kinds.Kind.{Kind}
 use Rattle.kinds.specs.Kinds.{airborne, bands_of, limit_of, reference_of, C, Ctr}
 use Rattle.kinds.specs.Numbers.{entries_of, start_add}
 use Rattle.kinds.proofs.Facts.{count-of}
-use Rattle.rating.specs.declared.sheets.Rated.TheVariants.{Rating, Refused}
-use Rattle.rating.specs.declared.sheets.Term.TheVariants.{Given}
 use Rattle.rating.specs.Curve.{deficit, total, within, stricter_by, IsPosition, start_by, start_of, shifted_by, shifted, first_from, shifts_of, position_of, taken_off, rating_of}
 use Rattle.rating.specs.Terms.{least_to, greatest_to, less, weighted, airborne_term, impact_term}
 use Rattle.rating.specs.Sheets.{first_by, second_by, sheet_of, rated_of, asked}
 use Rattle.rating.proofs.Meaning.{is-position}
 use Rattle.rating.proofs.RatedLaws.{wrong-count}
+use Rattle.std.specs.Prelude.{Ok, Err, Some}
 
 -- ---- "The rating is the greatest whole X whose deficits total at most the limit", "take the least whole Y"
 pub position-best : (k : Kind) (s : BandSet) → accepted s (bands_of k) ≡ true → IsPosition k (band_of s) (position_of k (band_of s))
@@ -150,7 +149,7 @@ module _ (k : Kind) (x y : ℕ → ℤ) (same : (i : ℕ) → i < bands_of k →
   first-same-by false = ap half_even impact-same
 
   second-same-by : (sign : Bool) → second_by sign k x ≡ second_by sign k y
-  second-same-by true = ap (λ (z : ℤ). Given (record { 0 = half_even z })) (airborne-same (Ctr k))
+  second-same-by true = ap (λ (z : ℤ). Some (record { 0 = half_even z })) (airborne-same (Ctr k))
   second-same-by false = refl
 
 sheet-same : (k : Kind) (s t : BandSet) → ((i : ℕ) → i < bands_of k → band_of s i ≡ band_of t i)
@@ -184,11 +183,10 @@ agreed : (k : Kind) (s t : BandSet) → s.len ≡ t.len → ((i : ℕ) → i < b
     → ((i : ℕ) → i < bands_of k → bit s.marks i ≡ bit t.marks i) → rated_of k s ≡ rated_of k t
 unfolding rated_of
 agreed k s t len values marks = λ i.
-    asked (eqb (len i) (bands_of k)) (asked (accepted-same s t (bands_of k) values i) (Rating (sheet-same k s t values marks i)) (Refused BandRange))
-    (Refused BandCount)
+    asked (eqb (len i) (bands_of k)) (asked (accepted-same s t (bands_of k) values i) (Ok (sheet-same k s t values marks i)) BandRange) BandCount
 
 pub past-length : (k : Kind) (s t : BandSet) → Stated s t → rated_of k s ≡ rated_of k t
-past-length k = past_by (rated_of k) (bands_of k) (Refused BandCount) (λ s f. sym (wrong-count k s (bands_of k) refl f)) (agreed k)
+past-length k = past_by (rated_of k) (bands_of k) (Err BandCount) (λ s f. sym (wrong-count k s (bands_of k) refl f)) (agreed k)
 
 -- ---- the same for any values in range, whatever holds them
 as-set : (ℕ → ℤ) → BandSet
