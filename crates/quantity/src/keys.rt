@@ -44,12 +44,10 @@ pub fn is_key_of(key: &[u8]) -> bool
     if 32 < key.len() {
         return false;
     }
-    let mut i = 0;
-    while i < key.len() {
+    for i in 0..key.len() {
         if !is_key(key[i]) {
             return false;
         }
-        i += 1;
     }
     true
 }

@@ -5,11 +5,10 @@
 #![tactic(auto)]
 
 mod keys;
-pub mod naturals;
 mod quantities;
 mod refusals;
 pub mod signed;
 
 pub use keys::{byte, is_key, is_key_of};
 pub use quantities::{BandSet, Decibels, Fen, Hundredths, Reading, Tenths};
-pub use refusals::{Outcome, Refusal};
+pub use refusals::Refusal;

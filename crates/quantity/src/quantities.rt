@@ -7,20 +7,20 @@ use crate::signed::{above, less};
 
 // A measured or derived value, in tenths of a decibel.
 #[repr(C)]
-#[derive(Clone, Copy)]
+#[derive(Clone, Copy, PartialEq, Eq)]
 pub struct Tenths(pub i32);
 
 // A single number, in whole decibels: a rating, a target, a rounded term.
-#[derive(Clone, Copy)]
+#[derive(Clone, Copy, PartialEq, Eq)]
 pub struct Decibels(pub i32);
 
 // A reverberation time, in hundredths of a second.
-#[derive(Clone, Copy)]
+#[derive(Clone, Copy, PartialEq, Eq)]
 pub struct Hundredths(pub u32);
 
 // A price or a total, in fen.
 #[repr(C)]
-#[derive(Clone, Copy)]
+#[derive(Clone, Copy, PartialEq, Eq)]
 pub struct Fen(pub u32);
 
 // What the analyser gives for a band: a level, a limit value, or nothing.
