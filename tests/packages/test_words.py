@@ -33,7 +33,7 @@ def shouted(word):
 class Refusals(unittest.TestCase):
     def setUp(self):
         """The proved library's own: number and word."""
-        numbers = found(r"^ {12}Refusal::(\w+) => (\d+),$", "crates/quantity/src/refusals.rt")
+        numbers = found(r"^ {4}(\w+) = (\d+),$", "crates/quantity/src/refusals.rt")
         self.refusals = {int(number): shouted(word) for word, number in numbers}
         self.assertEqual(sorted(self.refusals), [*range(1, 13), *range(16, 20)])
         entries = found(r"^    /\* (.*) \*/\n    IMBROLT_(\w+) = (\d+),?$", "include/imbrolt.h")

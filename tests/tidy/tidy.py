@@ -123,10 +123,10 @@ def is_used(name, used):
 
 
 def lines_of_contracts(text):
-    """All contracts of a file of the code."""
+    """All contracts of a file of the code, with its ghost fields and members."""
     lines, inside = [], False
     for line in text.split("\n"):
-        begins = re.match(r"\s*(?:requires|ensures)\b", line)
+        begins = re.match(r"\s*(?:requires|ensures|ghost (?!use\b))\b", line)
         inside = bool(begins) or (inside and line.strip() not in ("{", ""))
         lines += [line] if inside else []
     return "\n".join(lines)
@@ -159,7 +159,7 @@ def functions_uncalled(code):
                 continue
             names = {name, *re.findall(rf"use [^;]*::{name} as (\w+);", uses)}
             outside = (bare[other] if other != path else bare[path].replace(re.sub(r"//.*", "", match[0]), "", 1) for other in code)
-            if not re.search(rf"(?<!fn )\b(?:{'|'.join(names)})\b\s*\(", "\n".join(outside)):
+            if not re.search(rf"(?<!fn )\b(?:{'|'.join(names)})\b\s*(?:::<[^()]*>)?\(", "\n".join(outside)):
                 yield f"{path}:{text[:match.start()].count(chr(10)) + 1}: nothing calls {name}"
 
 

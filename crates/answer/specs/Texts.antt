@@ -1,13 +1,11 @@
 -- Document 01, "Request and answer lines": numbers, kinds and the text of an answer, as lists of bytes.
-use Rattle.std.specs.Prelude.{Bool, true, false, List, [], ◌∷◌, ◌++◌, ℕ, zero, suc, ◌+◌, ◌/◌, ◌%◌, ltb, ℤ, pos, negsuc}
+use Rattle.std.specs.Prelude.{Bool, true, false, List, [], ◌∷◌, ◌++◌, ℕ, zero, suc, ◌+◌, ◌/◌, ◌%◌, ltb, ℤ, pos, negsuc, Option, None, Some, Result, Ok, Err}
 use Rattle.quantity.specs.Refusals.{number_of}
+use Rattle.quantity.specs.declared.quantities.Decibels.{Decibels}
+use Rattle.quantity.specs.declared.refusals.Refusal.{Refusal}
 use Rattle.kinds.specs.declared.kinds.Kind.{Kind}
 use Rattle.kinds.specs.declared.kinds.Kind.TheVariants.{A3, A1, I3, I1}
-use Rattle.rating.specs.declared.sheets.Term.{Term}
-use Rattle.rating.specs.declared.sheets.Term.TheVariants.{Given, Absent}
 use Rattle.rating.specs.declared.sheets.Sheet.{Sheet}
-use Rattle.rating.specs.declared.sheets.Rated.{Rated}
-use Rattle.rating.specs.declared.sheets.Rated.TheVariants.{Rating, Refused}
 use Rattle.answer.specs.declared.texts.Field.{Field}
 use Rattle.answer.specs.declared.texts.Field.TheVariants.{Number, Count, Sign, Nothing}
 
@@ -57,9 +55,9 @@ kind_text I3 = 73 ∷ digit 3 ∷ []
 kind_text I1 = 73 ∷ digit 1 ∷ []
 
 -- "second term (`-` for impact)"
-unfoldable pub term_text : Term → List ℕ
-term_text (Given d) = number_text d.0
-term_text Absent = hyphen ∷ []
+unfoldable pub term_text : Option Decibels → List ℕ
+term_text (Some d) = number_text d.0
+term_text None = hyphen ∷ []
 
 -- "mark (`=` or `L`)": 76 is L, 61 is =
 abbrev pub set_text : Bool → List ℕ
@@ -72,11 +70,11 @@ sheet_fields s =
     (digit 0 ∷ []) ∷ number_text s.rating.0 ∷ number_text s.first.0 ∷ term_text s.second ∷ decimal s.shifts ∷ set_text s.limit ∷ []
 
 -- "Refused: kind, key, number"
-abbrev pub fields_of : Rated → List (List ℕ)
-fields_of (Rating s) = sheet_fields s
-fields_of (Refused r) = decimal (number_of r) ∷ []
+abbrev pub fields_of : Result Sheet Refusal → List (List ℕ)
+fields_of (Ok s) = sheet_fields s
+fields_of (Err r) = decimal (number_of r) ∷ []
 
-unfoldable pub rated_text : Kind → List ℕ → Rated → List ℕ
+unfoldable pub rated_text : Kind → List ℕ → Result Sheet Refusal → List ℕ
 rated_text kind key rated = line_text (kind_text kind) (key ∷ fields_of rated)
 
 -- "for 11, `?`, `?`, 11": 63 is ?

@@ -6,7 +6,8 @@ ghost use Rattle.laws.specs.Lists.{front};
 
 use kinds::Kind;
 use quantity::signed::{above, below};
-use rating::{Rated, Sheet, Term};
+use quantity::{Decibels, Refusal};
+use rating::Sheet;
 
 // How many digits a number has.
 fn decimal_len(n: u32) -> usize
@@ -125,10 +126,8 @@ fn put_key(s: &[u8], key: usize, len: usize, out: &mut [u8])
     requires out_in_bounds { len ≤ length out.old }
     ensures { out.new ≡ front (take len (drop key s.now)) out.old }
 {
-    let mut i = 0;
-    while i < len {
+    for i in 0..len {
         out[i] = s[key + i];
-        i += 1;
     }
 }
 
@@ -155,12 +154,12 @@ enum Field {
 }
 
 // A term; a hyphen where the kind has none.
-fn term_field(term: Term) -> Field
+fn term_field(term: Option<Decibels>) -> Field
     ensures { field_texts result ≡ term_text term ∷ [] }
 {
     match term {
-        Term::Given(d) => Field::Number(d.0),
-        Term::Absent => Field::Sign(b'-'),
+        Some(d) => Field::Number(d.0),
+        None => Field::Sign(b'-'),
     }
 }
 
@@ -171,11 +170,11 @@ fn mark(limit: bool) -> u8
 }
 
 // What follows the key: the fields of a sheet, or the number of a refusal and nothing more.
-fn fields_of(rated: Rated) -> [Field; 6]
+fn fields_of(rated: Result<Sheet, Refusal>) -> [Field; 6]
     ensures { (texts_of result ≡ fields_of rated) × (length result ≡ 6) }
 {
     match rated {
-        Rated::Rating(sheet) => {
+        Ok(sheet) => {
             let rating = sheet.rating;
             let first = sheet.first;
             let second = sheet.second;
@@ -188,7 +187,7 @@ fn fields_of(rated: Rated) -> [Field; 6]
                 Field::Sign(mark(sheet.limit)),
             ]
         }
-        Rated::Refused(refusal) => [
+        Err(refusal) => [
             Field::Count(refusal.number()),
             Field::Nothing,
             Field::Nothing,
@@ -219,28 +218,26 @@ fn put_field(field: Field, out: &mut [u8]) -> usize
 
 // What follows the key, field by field, each at the front of the tail that the ones before it left, then the line feed. Always
 // six turns: the compiler lays them out one after another.
-pub fn put_rated(rated: Rated, out: &mut [u8])
+pub fn put_rated(rated: Result<Sheet, Refusal>, out: &mut [u8])
     requires { length (others (fields_of rated)) ≤ length out.old }
     ensures { out.new ≡ front (others (fields_of rated)) out.old }
 {
     let fields = fields_of(rated);
     let mut at = 0;
-    let mut i = 0;
-    while i < 6 {
+    for i in 0..6 {
         let field = fields[i];
         at += put_field(field, &mut out[at..]);
-        i += 1;
     }
     out[at] = b'\n';
 }
 
 // How long what follows the key is. Summed from the sheet: a loop over the fields is slower.
-fn term_len(term: Term) -> usize
+fn term_len(term: Option<Decibels>) -> usize
     ensures { (result ≡ length (term_text term)) × (result ≤ 11) }
 {
     match term {
-        Term::Given(d) => number_len(d.0),
-        Term::Absent => 1,
+        Some(d) => number_len(d.0),
+        None => 1,
     }
 }
 
@@ -254,12 +251,12 @@ fn sheet_len(sheet: Sheet) -> usize
     9 + terms + decimal_len(sheet.shifts)
 }
 
-pub fn rated_len(rated: Rated) -> usize
+pub fn rated_len(rated: Result<Sheet, Refusal>) -> usize
     ensures { (result ≡ length (others (fields_of rated))) × (result ≤ 64) }
 {
     match rated {
-        Rated::Rating(sheet) => sheet_len(sheet),
-        Rated::Refused(refusal) => 2 + decimal_len(refusal.number()),
+        Ok(sheet) => sheet_len(sheet),
+        Err(refusal) => 2 + decimal_len(refusal.number()),
     }
 }
 

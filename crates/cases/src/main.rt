@@ -12,8 +12,7 @@ use vectors::numbers::Case;
 // Feeds what was read, and answers each line that it ends.
 fn take(rt: &impl Print, case: Case, bytes: &[u8]) -> Case {
     let mut now = case;
-    let mut i = 0;
-    while i < bytes.len() {
+    for i in 0..bytes.len() {
         let b = bytes[i];
         if b == b'\n' {
             answers::answer(rt, now);
@@ -21,7 +20,6 @@ fn take(rt: &impl Print, case: Case, bytes: &[u8]) -> Case {
         } else {
             now = numbers::fed(now, b);
         }
-        i += 1;
     }
     now
 }

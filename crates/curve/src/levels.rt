@@ -1,13 +1,12 @@
 // The shared rating over levels: sums, the search for the accepted position, and the sum of energies.
 ghost use Rattle.std.specs.Prelude.{◌≡◌, true, ◌&&◌, ℕ, ◌≤◌, ◌<◌, get_or};
 ghost use Rattle.laws.specs.Sums.{sum_to};
-ghost use Rattle.energy.specs.Tabled.{Scaled};
 ghost use Rattle.quantity.specs.Quantities.{in_range, band_of};
 ghost use Rattle.curve.specs.Bands.{accepted};
 ghost use Rattle.curve.specs.Levels.{level_by, Countable, Entries, plain_at, Ranged, Levels, at, total_at, least_of, energies_of, Settled};
 
 use crate::positions::Position;
-use energy::Cell;
+use energy::RatingTables;
 use quantity::signed::{above, below};
 use quantity::{BandSet, Tenths};
 
@@ -34,11 +33,9 @@ pub fn all_in_range(set: BandSet, bands: usize) -> bool
     ensures { result ≡ accepted set bands }
 {
     let mut all = true;
-    let mut i = 0;
-    while i < bands {
+    for i in 0..bands {
         let value = set.values[i];
         all = both(all, value.in_range());
-        i += 1;
     }
     all
 }
@@ -69,12 +66,10 @@ pub fn plain(set: BandSet) -> [i32; 16]
     ensures { (i : ℕ) → i < 16 → plain_at result i ≡ band_of set i }
 {
     let mut out = [0i32; 16];
-    let mut i = 0;
-    while i < 16 {
+    for i in 0..16 {
         let value = set.values[i];
         let tenths = value.0;
         out[i] = tenths;
-        i += 1;
     }
     out
 }
@@ -87,11 +82,9 @@ pub fn levels(values: &[i32; 16], bands: usize, airborne: bool, entries: [u32; 1
     ensures { Levels airborne (plain_at values.now) entries bands result }
 {
     let mut out = [0u32; 16];
-    let mut i = 0;
-    while i < bands {
+    for i in 0..bands {
         let value = Tenths(values[i]);
         out[i] = level_of(value, airborne, entries[i]);
-        i += 1;
     }
     out
 }
@@ -103,10 +96,8 @@ pub fn sum(levels: &[u32; 16], bands: usize) -> u32
     ensures { result ≡ sum_to (at levels.now) bands }
 {
     let mut sum = 0;
-    let mut i = 0;
-    while i < bands {
+    for i in 0..bands {
         sum += levels[i];
-        i += 1;
     }
     sum
 }
@@ -119,12 +110,10 @@ pub fn total(levels: &[u32; 16], bands: usize, p: Position) -> u32
 {
     let height = p.tenths();
     let mut total = 0;
-    let mut i = 0;
-    while i < bands {
+    for i in 0..bands {
         if levels[i] < height {
             total += height - levels[i];
         }
-        i += 1;
     }
     total
 }
@@ -150,28 +139,23 @@ pub fn least(levels: &[u32; 16], bands: usize) -> u32
     ensures { result ≡ least_of (at levels.now) bands }
 {
     let mut least = levels[0];
-    let mut i = 0;
-    while i < bands {
+    for i in 0..bands {
         if levels[i] < least {
             least = levels[i];
         }
-        i += 1;
     }
     least
 }
 
 // The sum of the energies of the levels, m the least of them.
-pub fn energies(levels: &[u32; 16], bands: usize, m: u32, tables: &[Cell], many: bool) -> u64
-    requires scaled { Scaled many tables.now }
+pub fn energies(levels: &[u32; 16], bands: usize, m: u32, tables: RatingTables) -> u64
     requires bands_bound { bands ≤ 16 }
     requires least { (i : ℕ) → i < bands → m ≤ at levels.now i }
     ensures { result ≡ energies_of (at levels.now) bands m }
 {
     let mut sum = 0u64;
-    let mut i = 0;
-    while i < bands {
-        sum += energy::energy(tables, many, levels[i] - m) as u64;
-        i += 1;
+    for i in 0..bands {
+        sum += u64::from(tables.energy(levels[i] - m));
     }
     sum
 }

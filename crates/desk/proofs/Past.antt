@@ -3,12 +3,14 @@ use mathlib.Core.Path.{◌≡◌, ap}
 use mathlib.Core.List.{List}
 use Prim.Native.Nat.{ℕ}
 use Rattle.quantity.specs.declared.quantities.Reading.{Reading}
-use Rattle.measurement.specs.declared.lists.Intake.{Intake}
 use Rattle.measurement.proofs.Past.{Alike, list-past}
 use Rattle.kinds.specs.declared.kinds.Kind.{Kind}
 use Rattle.kinds.specs.Kinds.{bands_of}
 use Rattle.desk.specs.Calls.{rated_by, readings_rated}
+use Rattle.std.specs.Prelude.{Result}
+use Rattle.quantity.specs.declared.quantities.BandSet.{BandSet}
+use Rattle.quantity.specs.declared.refusals.Refusal.{Refusal}
 
 pub readings-past : (k : Kind) (a b : List Reading) (len : ℕ) → Alike a b len → readings_rated k a len ≡ readings_rated k b len
 unfolding readings_rated
-readings-past k a b len h = ap (λ (r : Intake). rated_by k r.set r.outcome) (list-past a b len (bands_of k) h)
+readings-past k a b len h = ap (rated_by k) (list-past a b len (bands_of k) h)

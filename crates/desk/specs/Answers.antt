@@ -10,7 +10,7 @@ pub use Rattle.rating.specs.Sheets.{term_of, term_flag, sheet_numbers, rated_ans
 -- the values of so many bands, then their marks
 unfoldable pub use Rattle.laws.specs.Lists.{listed}
 unfoldable pub use Rattle.measurement.specs.Lists.{set_numbers}
-pub use Rattle.measurement.specs.Lists.{set_answer, intake_answer}
+pub use Rattle.measurement.specs.Lists.{intake_answer}
 -- improvement rating, term, mark
 pub use Rattle.products.specs.Covers.{improvement_answer}
 -- rating, C, Ctr, deciding number, grade, mark

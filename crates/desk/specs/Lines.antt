@@ -14,14 +14,12 @@ pub use Rattle.reply.specs.Answers.{judged_by, answer_to}
 unfoldable pub use Rattle.request.specs.Gathering.{first_fault, marks_of, values_of}
 unfoldable pub use Rattle.reply.specs.Answers.{set_of, judged, answer_of}
 -- the same where it stands in a longer input
-pub use Rattle.reply.specs.Answers.{no_reply}
 unfoldable pub use Rattle.request.specs.Reading.{request_at}
 unfoldable pub use Rattle.reply.specs.Answers.{reply_to, reply_at, reply_text}
 -- a whole run: one answer for each line, in order
 unfoldable pub use Rattle.line.specs.Answers.{lines_of, answers_to, answers_of}
 -- "The library writes an answer line from an offset that the caller names; bytes before it and after the line keep their
 -- contents."
-pub use Rattle.line.specs.declared.lines.Wrote.{Wrote}
 unfoldable pub use Rattle.line.specs.Answers.{fits_at, placed, wrote_of}
 -- a run in parts: what one block call answers, and what it carries on
 pub use Rattle.line.specs.declared.blocks.Progress.{Progress}

@@ -13,6 +13,6 @@ pub use Rattle.quantity.specs.declared.quantities.Reading.{Reading}
 -- "It becomes the tenth nearest its exact binary value, a tie going to the greater. The range is tested after that."
 unfoldable pub use Rattle.intake.specs.Nearest.{nearest_to}
 pub use Rattle.intake.specs.Nearest.{nearest}
-pub use Rattle.intake.specs.Taken.{ranged}
+pub use Rattle.intake.specs.Taken.{taken, ranged}
 unfoldable pub use Rattle.intake.specs.Taken.{float_taken, taken_of}
 pub use Rattle.intake.specs.declared.singles.Taken.{Taken}

@@ -3,11 +3,12 @@ ghost use Rattle.std.specs.Prelude.{◌≡◌, length};
 ghost use Rattle.desk.specs.Answers.{wrote_answer};
 ghost use Rattle.desk.specs.Lines.{answer_of, placed, wrote_of, block_of, Answered};
 
-use line::{Progress, Wrote};
+use line::Progress;
+use quantity::Refusal;
 
 // The answer to one line, with its line feed, from an offset of the output: refused only with 10, the output then untouched.
 // Bytes before the offset and after the answer keep their contents.
-pub fn answer_line(line: &[u8], out: &mut [u8], at: usize) -> Wrote
+pub fn answer_line(line: &[u8], out: &mut [u8], at: usize) -> Result<usize, Refusal>
     ensures value { wrote_answer result ≡ wrote_answer (wrote_of out.old at (answer_of line.now)) }
     ensures out_after { out.new ≡ placed out.old at (answer_of line.now) }
 {

@@ -7,8 +7,8 @@ ghost use Rattle.desk.specs.Registers.{opened, call_of, billed_of, after_of, owe
 
 use kinds::Kind;
 use ledger::close_for;
-use quantity::{BandSet, Fen};
-use register::{Billed, Owed, Register, enter, owed_by};
+use quantity::{BandSet, Fen, Refusal};
+use register::{Billed, Register, enter, owed_by};
 
 // A register without entries.
 pub fn open_register() -> Register
@@ -27,7 +27,7 @@ pub fn bill(
     kind: Kind,
     set: BandSet,
     price: Fen,
-) -> Billed
+) -> Result<Billed, Refusal>
     ensures value { billed_answer result ≡ billed_answer (billed_of register.old (call_of customer key.now kind set price.0)) }
     ensures register_after { register.new ≡ after_of register.old (call_of customer key.now kind set price.0) }
 {
@@ -38,7 +38,7 @@ pub fn bill(
 }
 
 // A customer's total in fen, or 19.
-pub fn owed(register: &Register, customer: u64) -> Owed
+pub fn owed(register: &Register, customer: u64) -> Result<Fen, Refusal>
     ensures { owed_answer result ≡ owed_answer (owed_of register.now customer) }
 {
     let whole = *register;
@@ -48,7 +48,7 @@ pub fn owed(register: &Register, customer: u64) -> Owed
 // A customer's total in fen, handed out: the customer's entries go, and the others move together in their order. Places from the
 // new count up to the old one become zeros, those from there on stay. A customer without entries is handed 0, and nothing
 // changes. Refused with 19, the register unchanged.
-pub fn close(register: &mut Register, customer: u64) -> Owed
+pub fn close(register: &mut Register, customer: u64) -> Result<Fen, Refusal>
     ensures value { owed_answer result ≡ owed_answer (owed_of register.old customer) }
     ensures register_after { register.new ≡ closed_of register.old customer }
 {

@@ -10,8 +10,6 @@ use lib.ListN.{length, set}
 use Rattle.quantity.specs.Refusals.{number_of}
 use Rattle.quantity.specs.declared.refusals.Refusal.{Refusal}
 use Rattle.quantity.specs.declared.refusals.Refusal.TheVariants.{OutputTooSmall}
-use Rattle.line.specs.declared.lines.Wrote.{Wrote}
-use Rattle.line.specs.declared.lines.Wrote.TheVariants.{Bytes, Refused}
 use Rattle.line.specs.declared.blocks.Progress.{Progress}
 use Rattle.reply.specs.Answers.{answer_of}
 use Rattle.line.specs.Answers.{fits_at, placed, wrote_of, wrote_answer}
@@ -22,6 +20,7 @@ use Rattle.quantity.specs.Answers.Answer.{refused, numbers}
 use Rattle.door.proofs.Fronts.{written_none, written-more, written_all, stored}
 use Rattle.desk_c.specs.Lines.{line_answer, line_held, is_set, block_numbers, block_by, block_answer, block_held}
 use Rattle.laws.specs.Extremes.{one_if}
+use Rattle.std.specs.Prelude.{Result, Ok, Err}
 
 -- numbers that have no place
 no_place : (xs before : List ℕ) → length before < length xs
@@ -44,11 +43,11 @@ module _ (line out : List ℕ) (at : ℕ) (wrote : List ℕ) where
       (w.0, (rw (lt-leb 1 (length wrote) h) refl, w.1))
     where
       go : (b : Bool) (n : ℕ)
-          → (10 ≡ returned (wrote_answer (cond b (Bytes n) (Refused OutputTooSmall))) (length wrote)) × (wrote ≡ held (wrote_answer (cond b (Bytes n) (Refused OutputTooSmall))) wrote)
+          → (10 ≡ returned (wrote_answer (cond b (Ok n) (Err OutputTooSmall))) (length wrote)) × (wrote ≡ held (wrote_answer (cond b (Ok n) (Err OutputTooSmall))) wrote)
       go true n = no_place (n ∷ []) wrote h
       go false n = (refl, refl)
 
-  module _ (h : 1 ≤ length wrote) (w : Wrote) (out' : List ℕ) (e : w ≡ wrote_of out at (answer_of line)) (p : out' ≡ placed out at (answer_of line)) where
+  module _ (h : 1 ≤ length wrote) (w : Result ℕ Refusal) (out' : List ℕ) (e : w ≡ wrote_of out at (answer_of line)) (p : out' ≡ placed out at (answer_of line)) where
     by_answer : (a : Answer ℕ) → wrote_answer w ≡ a → (r : ℕ) (wrote' : List ℕ) → r ≡ returned a (length wrote) → wrote' ≡ held a wrote
         → LineLeft line out at wrote r out' wrote'
     unfolding line_answer line_held
@@ -58,12 +57,12 @@ module _ (line out : List ℕ) (at : ℕ) (wrote : List ℕ) where
           (p ∙ rw (le-leb 1 (length wrote) h) refl, s ∙ ap (λ (x : Answer ℕ). held x wrote) g),
         )
 
-    pub line-written : (n : ℕ) → w ≡ Bytes n → LineLeft line out at wrote 0 out' (set wrote 0 n)
+    pub line-written : (n : ℕ) → w ≡ Ok n → LineLeft line out at wrote 0 out' (set wrote 0 n)
     line-written n f =
         let s = stored 0 wrote n h in
         by_answer (numbers (n ∷ [])) (ap wrote_answer f) 0 (set wrote 0 n) s.0 s.1
 
-    pub line_refused : (q : Refusal) (r : ℕ) → w ≡ Refused q → r ≡ number_of q → LineLeft line out at wrote r out' wrote
+    pub line_refused : (q : Refusal) (r : ℕ) → w ≡ Err q → r ≡ number_of q → LineLeft line out at wrote r out' wrote
     line_refused q r f g = by_answer (refused (number_of q)) (ap wrote_answer f) r wrote g refl
 
 -- ---- the block call: its result, its output and its progress

@@ -1,10 +1,8 @@
 -- The answer of the lift call: a count for one lent array, the listed sets for another.
-use Rattle.std.specs.Prelude.{cond, List, ℕ, leb, ℤ, length}
+use Rattle.std.specs.Prelude.{cond, List, ℕ, leb, ℤ, length, Option, None, Some}
 use Rattle.quantity.specs.Quantities.{band_of}
 use Rattle.quantity.specs.declared.quantities.BandSet.{BandSet}
 use Rattle.kinds.specs.declared.kinds.Kind.{Kind}
-use Rattle.kinds.specs.declared.kinds.Named.{Named}
-use Rattle.kinds.specs.declared.kinds.Named.TheVariants.{Is, Unknown}
 use Rattle.kinds.specs.Kinds.{kind_of}
 use Rattle.lift.specs.Reach.{lift_list}
 use Rattle.lift.specs.Calls.{answer_of, buffer_by, count_answer}
@@ -22,9 +20,9 @@ unfoldable pub list_by : Kind → BandSet → ℤ → List ℕ → ℕ → List 
 list_by k s target list places =
     cond (leb 1 places) (buffer_by (answer_of k s target (length list)) (lift_list k (band_of s) target) list) list
 
-abbrev pub kept_or : Named → (Kind → List ℕ) → List ℕ → List ℕ
-kept_or (Is kind) after before = after kind
-kept_or Unknown after before = before
+abbrev pub kept_or : Option Kind → (Kind → List ℕ) → List ℕ → List ℕ
+kept_or (Some kind) after before = after kind
+kept_or None after before = before
 
 unfoldable pub lift_held : ℕ → List ℤ → ℕ → ℤ → List ℕ → ℕ → List ℕ
 lift_held kind values marks target list places =

@@ -1,9 +1,7 @@
 -- The answers of the calls on readings and ratings.
-use Rattle.std.specs.Prelude.{List, ℕ, ℤ, Float, length}
+use Rattle.std.specs.Prelude.{List, ℕ, ℤ, Float, length, Option, None, Some}
 use Rattle.intake.specs.Taken.{taken_of, taken_answer}
 use Rattle.kinds.specs.declared.kinds.Kind.{Kind}
-use Rattle.kinds.specs.declared.kinds.Named.{Named}
-use Rattle.kinds.specs.declared.kinds.Named.TheVariants.{Is, Unknown}
 use Rattle.kinds.specs.Kinds.{kind_of}
 use Rattle.rating.specs.Sheets.{rated_of, rated_answer}
 use Rattle.quantity.specs.Answers.{Answer}
@@ -12,9 +10,9 @@ use Rattle.door.specs.Lists.{set_from, reading_from, readings_from}
 use Rattle.desk.specs.Calls.{readings_rated}
 
 -- an unknown kind number owns no band count and is refused with 1
-abbrev pub by_kind : Named → (Kind → Answer ℤ) → Answer ℤ
-by_kind (Is kind) answer = answer kind
-by_kind Unknown answer = refused 1
+abbrev pub by_kind : Option Kind → (Kind → Answer ℤ) → Answer ℤ
+by_kind (Some kind) answer = answer kind
+by_kind None answer = refused 1
 
 -- imbrolt_take_reading
 unfoldable pub reading_answer : ℕ → Float → Answer ℤ

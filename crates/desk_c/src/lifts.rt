@@ -5,8 +5,7 @@ ghost use Rattle.door.specs.Answers.{returned, held};
 ghost use Rattle.desk_c.specs.Lifts.{list_by, lift_answer, lift_held};
 
 use door::set_from;
-use kinds::{Kind, Named, kind_of};
-use lift::Lifted;
+use kinds::{Kind, kind_of};
 use quantity::{BandSet, Decibels};
 
 // The number that the call gives where there is no room for the count: that of any other refusal, else 10. A list of its own
@@ -16,8 +15,8 @@ fn number_alone(kind: Kind, set: BandSet, target: Decibels) -> u32
 {
     let mut list = [0u16; 1];
     match desk::lift(kind, set, target, &mut list) {
-        Lifted::Count(_) => 10,
-        Lifted::Refused(refusal) => refusal.number(),
+        Ok(_) => 10,
+        Err(refusal) => refusal.number(),
     }
 }
 
@@ -31,12 +30,12 @@ fn give_lift(kind: Kind, set: BandSet, target: Decibels, list: &mut [u16], out: 
         return number_alone(kind, set, target);
     }
     match desk::lift(kind, set, target, list) {
-        Lifted::Count(n) => {
+        Ok(n) => {
             let count = n as i32;
             out[0] = count;
             0
         }
-        Lifted::Refused(refusal) => refusal.number(),
+        Err(refusal) => refusal.number(),
     }
 }
 
@@ -55,7 +54,7 @@ pub extern "C" fn imbrolt_lift(
     ensures out_after { out.new ≡ held (lift_answer kind values.now marks target (length list.old)) out.old }
 {
     match kind_of(kind) {
-        Named::Unknown => 1,
-        Named::Is(kind) => give_lift(kind, set_from(values, marks), Decibels(target), list, out),
+        None => 1,
+        Some(kind) => give_lift(kind, set_from(values, marks), Decibels(target), list, out),
     }
 }

@@ -5,8 +5,6 @@ ghost use Rattle.door.specs.Answers.{returned, held};
 ghost use Rattle.desk_c.specs.Lines.{line_answer, line_held, is_set, block_answer, block_held};
 ghost use Rattle.laws.specs.Extremes.{one_if};
 
-use line::Wrote;
-
 // The answer to one line, from place `at` of `out`, and its length.
 #[unsafe(no_mangle)]
 pub extern "C" fn imbrolt_answer_line(
@@ -23,27 +21,24 @@ pub extern "C" fn imbrolt_answer_line(
         return 10;
     }
     match desk::answer_line(line, out, at) {
-        Wrote::Bytes(n) => {
+        Ok(n) => {
             wrote[0] = n as u64;
             0
         }
-        Wrote::Refused(refusal) => refusal.number(),
+        Err(refusal) => refusal.number(),
     }
 }
 
 fn is_set(number: u32) -> bool
     ensures { result ≡ is_set number }
 {
-    if number == 0 {
-        return false;
-    }
-    true
+    number != 0
 }
 
 fn bit_of(flag: bool) -> u64
     ensures { result ≡ one_if flag }
 {
-    if flag { 1 } else { 0 }
+    u64::from(flag)
 }
 
 // The answers to the whole lines of a part of a run for which `out` has room: bytes used, bytes written, and the flag to hand

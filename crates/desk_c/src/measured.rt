@@ -6,7 +6,7 @@ ghost use Rattle.desk_c.specs.Rooms.{field_answer, laboratory_answer, raw_answer
 use door::{
     give_cover, give_graded, give_level, give_set, give_taken, readings_from, set_from, side_of,
 };
-use kinds::{A1Kind, A3Kind};
+use kinds::{A1Kind, A3Kind, RatingKind};
 use quantity::Tenths;
 use rooms::RawBand;
 

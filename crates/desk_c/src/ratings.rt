@@ -4,7 +4,7 @@ ghost use Rattle.door.specs.Answers.{returned, held};
 ghost use Rattle.desk_c.specs.Ratings.{reading_answer, rate_answer, readings_answer};
 
 use door::{give_rated, give_taken, reading_from, readings_from, set_from};
-use kinds::{Named, kind_of};
+use kinds::kind_of;
 
 // One reading: its tenths and its mark.
 #[unsafe(no_mangle)]
@@ -22,8 +22,8 @@ pub extern "C" fn imbrolt_rate(kind: u32, values: &[i32], marks: u32, out: &mut 
     ensures out_after { out.new ≡ held (rate_answer kind values.now marks) out.old }
 {
     match kind_of(kind) {
-        Named::Unknown => 1,
-        Named::Is(kind) => give_rated(out, desk::rate(kind, set_from(values, marks))),
+        None => 1,
+        Some(kind) => give_rated(out, desk::rate(kind, set_from(values, marks))),
     }
 }
 
@@ -39,8 +39,8 @@ pub extern "C" fn imbrolt_rate_readings(
     ensures out_after { out.new ≡ held (readings_answer kind marks.now values.now) out.old }
 {
     match kind_of(kind) {
-        Named::Unknown => 1,
-        Named::Is(kind) => give_rated(
+        None => 1,
+        Some(kind) => give_rated(
             out,
             desk::rate_readings(kind, readings_from(marks, values), values.len()),
         ),

@@ -19,11 +19,8 @@ pub fn set_from(values: &[i32], marks: u32) -> BandSet
     ensures { result ≡ set_from values.now marks }
 {
     let mut tenths = [Tenths(0); 16];
-    let mut i = 0;
-    while i < 16 {
-        let value = tenths_at(values, i);
-        tenths[i] = value;
-        i += 1;
+    for i in 0..16 {
+        tenths[i] = tenths_at(values, i);
     }
     BandSet {
         values: tenths,
@@ -36,31 +33,22 @@ pub fn set_from(values: &[i32], marks: u32) -> BandSet
 pub fn reading_from(mark: u32, value: f32) -> Reading
     ensures { result ≡ reading_from mark value }
 {
-    if mark == 0 {
-        return Reading::Level(value);
+    match mark {
+        0 => Reading::Level(value),
+        1 => Reading::Limit(value),
+        _ => Reading::Missing,
     }
-    if mark == 1 {
-        return Reading::Limit(value);
-    }
-    Reading::Missing
-}
-
-fn wide(mark: u8) -> u32
-    ensures { result ≡ mark }
-{
-    mark as u32
 }
 
 // Reading i of two arrays.
 fn reading_at(marks: &[u8], values: &[f32], i: usize) -> Reading
     ensures { result ≡ reading_at marks.now values.now i }
 {
-    if i < marks.len() {
-        if i < values.len() {
-            return reading_from(wide(marks[i]), values[i]);
-        }
+    if i < marks.len() && i < values.len() {
+        reading_from(u32::from(marks[i]), values[i])
+    } else {
+        Reading::Missing
     }
-    Reading::Missing
 }
 
 // The 48 readings that two arrays begin with.
@@ -68,11 +56,8 @@ pub fn readings_from(marks: &[u8], values: &[f32]) -> [Reading; 48]
     ensures { result ≡ readings_from marks.now values.now }
 {
     let mut readings = [Reading::Missing; 48];
-    let mut i = 0;
-    while i < 48 {
-        let reading = reading_at(marks, values, i);
-        readings[i] = reading;
-        i += 1;
+    for i in 0..48 {
+        readings[i] = reading_at(marks, values, i);
     }
     readings
 }

@@ -8,8 +8,8 @@ use products::Side;
 pub fn side_of(number: u32) -> Side
     ensures { result ≡ side_of number }
 {
-    if number == 0 {
-        return Side::Outside;
+    match number {
+        0 => Side::Outside,
+        _ => Side::Inside,
     }
-    Side::Inside
 }

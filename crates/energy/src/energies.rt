@@ -1,9 +1,9 @@
 // The scaled powers F(d): the energy, in billionths, of what lies d tenths below the greatest.
-ghost use Rattle.std.specs.Prelude.{◌≡◌, ◌/◌, ◌^◌, ◌≤◌, ◌<◌};
+ghost use Rattle.std.specs.Prelude.{false, ◌≡◌, ◌/◌, ◌^◌, ◌≤◌, ◌<◌};
 ghost use Rattle.energy.specs.Energies.{F};
 ghost use Rattle.energy.specs.Tabled.{Scaled, inverse_of};
 
-use crate::lent::Cell;
+use crate::lent::{Cell, MeanTables, RatingTables};
 
 // The factor that divides by 10^k, times 2^(33 + 3k). A `match` is no array: nothing is laid out for it; and with an arm for
 // each of the ten, no test is left in the code: the last is never taken.
@@ -34,18 +34,38 @@ fn divided(n: u32, k: u32) -> u32
     ((n as u64 * inverse(k)) >> (33 + 3 * k)) as u32
 }
 
-// F(d): in the tables for many sets as it is, in those for one set the number at d mod 100, divided by ten for each hundred of d;
-// above 900 it is 0.
-pub fn energy(tables: &[Cell], many: bool, d: u32) -> u32
-    requires { Scaled many tables.now }
+// F(d) by its first hundred numbers: the one at d mod 100, divided by ten for each hundred of d; above 900 it is 0.
+fn by_hundreds(cells: &[Cell], d: u32) -> u32
+    requires { Scaled false cells.now }
     ensures { result ≡ F d }
 {
     if 900 < d {
         return 0;
     }
-    if many {
-        return tables[d as usize];
-    }
     let hundreds = d / 100;
-    divided(tables[(d - 100 * hundreds) as usize], hundreds)
+    divided(cells[(d - 100 * hundreds) as usize], hundreds)
+}
+
+impl<'a> RatingTables<'a> {
+    // F(d): in the tables for many sets it stands as it is.
+    pub fn energy(self, d: u32) -> u32
+        ensures { result ≡ F d }
+    {
+        if !self.many {
+            return by_hundreds(self.cells, d);
+        }
+        if 900 < d {
+            return 0;
+        }
+        self.cells[d as usize]
+    }
+}
+
+impl MeanTables {
+    // F(d).
+    pub fn energy(&self, d: u32) -> u32
+        ensures { result ≡ F d }
+    {
+        by_hundreds(&self.cells, d)
+    }
 }

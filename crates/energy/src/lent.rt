@@ -1,10 +1,40 @@
-// The tables of ratings and of means, as they are lent: cells that nobody but this crate reads.
+// The tables of ratings and of means: cells that nobody but this crate reads.
 ghost use Rattle.std.specs.Prelude.{true, false, ◌≡◌, ℕ, ◌+◌, ◌≤◌, ◌<◌, get_or};
 ghost use Rattle.energy.specs.Tabled.{Powers, Tabled, MeanTabled};
 
 use crate::constants::{MEAN_PARTS, PARTS};
 
 pub type Cell = u32;
+
+// The tables of ratings, as they are lent: laid out for one set, or for many.
+#[derive(Clone, Copy)]
+pub struct RatingTables<'a> {
+    pub(crate) cells: &'a [Cell],
+    pub(crate) many: bool,
+    ghost tabled: { Tabled many cells.now },
+}
+
+impl<'a> RatingTables<'a> {
+    // As `tables` lays them out.
+    pub fn for_one(cells: &'a [Cell]) -> RatingTables<'a>
+        requires { Tabled false cells.now }
+    {
+        RatingTables { cells, many: false }
+    }
+
+    // As `tables_of_many` does.
+    pub fn for_many(cells: &'a [Cell]) -> RatingTables<'a>
+        requires { Tabled true cells.now }
+    {
+        RatingTables { cells, many: true }
+    }
+}
+
+// The tables for means of three.
+pub struct MeanTables {
+    pub(crate) cells: [Cell; 211],
+    ghost tabled: { MeanTabled cells },
+}
 
 // The tables for one set, with the first hundred numbers of F. Where an array is named, it is laid out anew.
 pub fn tables() -> [Cell; 317]
@@ -13,11 +43,8 @@ pub fn tables() -> [Cell; 317]
     PARTS
 }
 
-// The tables for means of three.
-pub fn mean_tables() -> [Cell; 211]
-    ensures { MeanTabled result }
-{
-    MEAN_PARTS
+pub fn mean_tables() -> MeanTables {
+    MeanTables { cells: MEAN_PARTS }
 }
 
 // The cells of `few` from one place on, laid from the place `at` on; those before it stay as they are.
@@ -41,10 +68,8 @@ fn divided_down(first: [Cell; 1118]) -> [Cell; 1118]
     ensures { Powers 901 result }
 {
     let mut out = first;
-    let mut i = 100;
-    while i < 901 {
+    for i in 100..901 {
         out[i] = out[i - 100] / 10;
-        i += 1;
     }
     out
 }

@@ -12,7 +12,4 @@ mod means;
 mod steps;
 
 pub use corrections::{background, reverberation};
-pub use energies::energy;
-pub use lent::{Cell, mean_tables, tables, tables_of_many};
-pub use means::mean_of_three;
-pub use steps::level;
+pub use lent::{Cell, MeanTables, RatingTables, mean_tables, tables, tables_of_many};

@@ -2,9 +2,9 @@
 ghost use Rattle.std.specs.Prelude.{◌≡◌, ◌+◌, ◌≤◌, ◌<◌, length};
 ghost use Rattle.energy.specs.Energies.{u, Summed};
 ghost use Rattle.energy.specs.Steps.{Reached};
-ghost use Rattle.energy.specs.Tabled.{Stepped, stretch_of, missed_by, missed_at, reach};
+ghost use Rattle.energy.specs.Tabled.{stretch_of, missed_by, missed_at, reach};
 
-use crate::lent::Cell;
+use crate::lent::{Cell, RatingTables};
 
 // How many entries of an ascending table are at most s, by halving.
 pub fn reached(table: &[u64], s: u64) -> usize
@@ -59,13 +59,14 @@ fn behind(many: bool) -> usize
     if many { 901 } else { 100 }
 }
 
-// u(S): the tenths that a sum of energies stands above one band alone. No stretch holds more than three thresholds.
-pub fn level(tables: &[Cell], many: bool, s: u64) -> u32
-    requires summed { Summed s }
-    requires stepped { Stepped many tables.now }
-    ensures { result ≡ u s }
-{
-    let at = behind(many);
-    let below = tables[at + 123 + stretch(s)];
-    below + 3 - missed_of_three(tables, at + below as usize, s)
+impl<'a> RatingTables<'a> {
+    // u(S): the tenths that a sum of energies stands above one band alone. No stretch holds more than three thresholds.
+    pub fn level(self, s: u64) -> u32
+        requires { Summed s }
+        ensures { result ≡ u s }
+    {
+        let at = behind(self.many);
+        let below = self.cells[at + 123 + stretch(s)];
+        below + 3 - missed_of_three(self.cells, at + below as usize, s)
+    }
 }

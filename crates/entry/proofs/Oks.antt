@@ -11,17 +11,15 @@ use Rattle.quantity.specs.declared.quantities.BandSet.{BandSet}
 use Rattle.quantity.specs.declared.refusals.Refusal.{Refusal}
 use Rattle.curve.specs.Bands.{accepted}
 use Rattle.kinds.specs.declared.kinds.Kind.{Kind}
-use Rattle.kinds.specs.declared.kinds.Named.{Named}
-use Rattle.kinds.specs.declared.kinds.Named.TheVariants.{Is}
 use Rattle.kinds.specs.Kinds.{bands_of, kind_of}
 use Rattle.rating.specs.declared.sheets.Sheet.{Sheet}
-use Rattle.rating.specs.declared.sheets.Rated.TheVariants.{Rating, Refused}
 use Rattle.rating.specs.Sheets.{rated_of, sheet_of, asked}
 use Rattle.entry.specs.declared.entries.Entry.{Entry}
 use Rattle.entry.specs.Entries.{key_of, set_of, is_sheet, ratable, keyed, entry_ok}
+use Rattle.std.specs.Prelude.{Ok, Err, Option, Some}
 
 -- bands that are as many as the kind has are rated where they are in range
-rated-by : (b : Bool) (s : Sheet) (f : Refusal) → b ≡ is_sheet (asked b (Rating s) (Refused f))
+rated-by : (b : Bool) (s : Sheet) (f : Refusal) → b ≡ is_sheet (asked b (Ok s) (Err f))
 rated-by true s f = refl
 rated-by false s f = refl
 
@@ -29,9 +27,9 @@ rated-as : (k : Kind) (s : BandSet) → s.len ≡ bands_of k → accepted s (ban
 unfolding rated_of
 rated-as k s e = rw (eq-eqb s.len (bands_of k) e) (rated-by (accepted s (bands_of k)) (sheet_of k s) _)
 
-pub ratable-as : (e : Entry) (k : Kind) (n : Named) (s : BandSet) (b : ℕ) → n ≡ kind_of e.kind → n ≡ Is k → s ≡ set_of k e → b ≡ bands_of k
+pub ratable-as : (e : Entry) (k : Kind) (n : Option Kind) (s : BandSet) (b : ℕ) → n ≡ kind_of e.kind → n ≡ Some k → s ≡ set_of k e → b ≡ bands_of k
     → accepted s b ≡ ratable (kind_of e.kind) e
-ratable-as e k n s b p q c d = rw (c, d) (rated-as k (set_of k e) refl ∙ ap (λ (m : Named). ratable m e) (sym q ∙ p))
+ratable-as e k n s b p q c d = rw (c, d) (rated-as k (set_of k e) refl ∙ ap (λ (m : Option Kind). ratable m e) (sym q ∙ p))
 
 module _ (e : Entry) where
   pub ok-price : priced e.price.0 ≡ false → false ≡ entry_ok e

@@ -1,20 +1,18 @@
 -- Document 02, (x): "customer number, key, tenths and limit marks of all bands, kind, price in fen": what an entry says, when
 -- two say the same, and the entry that a call makes. Bytes of a key past its length, values and marks past the kind's bands
 -- never matter; what is entered has zeros there.
-use Rattle.std.specs.Prelude.{Bool, true, false, ◌&&◌, cond, List, ℕ, zero, suc, ◌+◌, ◌*◌, ◌%◌, ◌^◌, eqb, leb, ltb, ℤ, length, get_or, take, replicate}
+use Rattle.std.specs.Prelude.{Bool, true, false, ◌&&◌, cond, List, ℕ, zero, suc, ◌+◌, ◌*◌, ◌%◌, ◌^◌, eqb, leb, ltb, ℤ, length, get_or, take, replicate, Option, None, Some, Result, Ok, Err}
 use Rattle.std.specs.Int.Signed.{le_z}
 use Rattle.laws.specs.Lists.{listed}
 use Rattle.quantity.specs.Keys.{key_shape}
 use Rattle.quantity.specs.Quantities.{priced, nought}
+use Rattle.quantity.specs.declared.refusals.Refusal.{Refusal}
 use Rattle.quantity.specs.declared.quantities.Tenths.{Tenths}
 use Rattle.quantity.specs.declared.quantities.BandSet.{BandSet}
 use Rattle.laws.specs.Tests.{all_to}
 use Rattle.kinds.specs.declared.kinds.Kind.{Kind}
-use Rattle.kinds.specs.declared.kinds.Named.{Named}
-use Rattle.kinds.specs.declared.kinds.Named.TheVariants.{Is, Unknown}
 use Rattle.kinds.specs.Kinds.{bands_of, kind_of, kind_number}
-use Rattle.rating.specs.declared.sheets.Rated.{Rated}
-use Rattle.rating.specs.declared.sheets.Rated.TheVariants.{Rating, Refused}
+use Rattle.rating.specs.declared.sheets.Sheet.{Sheet}
 use Rattle.rating.specs.Sheets.{rated_of}
 use Rattle.entry.specs.declared.entries.Entry.{Entry}
 
@@ -33,9 +31,9 @@ abbrev pub set_of : Kind → Entry → BandSet
 set_of k e = record { values = e.values; marks = e.marks; len = bands_of k }
 
 -- how many bands the kind of a number has; what is no kind has none
-abbrev pub bands_by : Named → ℕ
-bands_by (Is k) = bands_of k
-bands_by Unknown = 0
+abbrev pub bands_by : Option Kind → ℕ
+bands_by (Some k) = bands_of k
+bands_by None = 0
 
 -- the marks of the first n bands
 abbrev pub marks_to : ℕ → ℕ → ℕ
@@ -72,13 +70,13 @@ same_bands e f = eqb e.kind f.kind && (same_marks (bands_in e) e f && same_value
 -- ---- an entry that a call could have made
 
 -- "bands that rating refuses", or a number that is no kind's
-abbrev pub is_sheet : Rated → Bool
-is_sheet (Rating sheet) = true
-is_sheet (Refused refusal) = false
+abbrev pub is_sheet : Result Sheet Refusal → Bool
+is_sheet (Ok sheet) = true
+is_sheet (Err refusal) = false
 
-abbrev pub ratable : Named → Entry → Bool
-ratable (Is k) e = is_sheet (rated_of k (set_of k e))
-ratable Unknown e = false
+abbrev pub ratable : Option Kind → Entry → Bool
+ratable (Some k) e = is_sheet (rated_of k (set_of k e))
+ratable None e = false
 
 -- "a key of another shape"
 abbrev pub keyed : Entry → Bool

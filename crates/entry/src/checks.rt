@@ -5,15 +5,15 @@ ghost use Rattle.entry.specs.Entries.{ratable, keyed, entry_ok};
 
 use crate::entries::{Entry, set_of};
 use curve::levels::all_in_range;
-use kinds::{Named, bands_of, kind_of};
+use kinds::{bands_of, kind_of};
 use quantity::is_key_of;
 
 fn is_ratable(e: Entry) -> bool
     ensures { result ≡ ratable (kind_of e.kind) e }
 {
     match kind_of(e.kind as u32) {
-        Named::Is(kind) => all_in_range(set_of(e, kind), bands_of(kind)),
-        Named::Unknown => false,
+        Some(kind) => all_in_range(set_of(e, kind), bands_of(kind)),
+        None => false,
     }
 }
 

@@ -2,9 +2,9 @@
 ghost use Rattle.std.specs.Prelude.{◌≡◌, ◌≤◌, ◌<◌, length, get_or};
 ghost use Rattle.laws.specs.Lists.{listed};
 ghost use Rattle.kinds.specs.Kinds.{bands_of, kind_number};
-ghost use Rattle.entry.specs.Entries.{no_entry, same_text, same_value, same_key, same_values, same_bands, set_of, marks_to, kept_value, call_of, entry_of};
+ghost use Rattle.entry.specs.Entries.{no_entry, same_text, same_value, same_key, same_values, same_bands, set_of, kept_value, call_of, entry_of};
 
-use kinds::{A1Kind, A3Kind, I1Kind, I3Kind, Kind, bands_of, kind_number};
+use kinds::{Kind, bands_of, kind_number, marks_of};
 use quantity::{BandSet, Fen, Tenths, byte};
 
 // What is kept of a sheet that was billed. The first `length` bytes of `key`, and as many values and marks as the kind has
@@ -43,12 +43,10 @@ fn same_text(s: &[u8], t: &[u8]) -> bool
     if s.len() != t.len() {
         return false;
     }
-    let mut i = 0;
-    while i < s.len() {
+    for i in 0..s.len() {
         if s[i] != t[i] {
             return false;
         }
-        i += 1;
     }
     true
 }
@@ -68,19 +66,6 @@ pub fn same_key(e: Entry, f: Entry) -> bool
     same_text(&s[..n], &t[..m])
 }
 
-// The marks of a kind's bands.
-fn marks_of(kind: Kind, marks: u16) -> u16
-    ensures { result ≡ marks_to (bands_of kind) marks }
-{
-    let all = marks as u32;
-    match kind {
-        Kind::A3 => (all % A3Kind::MARKS) as u16,
-        Kind::A1 => (all % A1Kind::MARKS) as u16,
-        Kind::I3 => (all % I3Kind::MARKS) as u16,
-        Kind::I1 => (all % I1Kind::MARKS) as u16,
-    }
-}
-
 fn same_tenths(s: Tenths, t: Tenths) -> bool
     ensures { result ≡ same_value s.0 t.0 }
 {
@@ -97,14 +82,12 @@ fn same_values(e: Entry, f: Entry, n: usize) -> bool
     requires { n ≤ 16 }
     ensures { result ≡ same_values n e f }
 {
-    let mut i = 0;
-    while i < n {
+    for i in 0..n {
         let s = e.values[i];
         let t = f.values[i];
         if !same_tenths(s, t) {
             return false;
         }
-        i += 1;
     }
     true
 }
@@ -140,11 +123,9 @@ fn kept_key(key: &[u8]) -> [u8; 32]
     ensures { result ≡ listed (λ i. get_or key.now i 0) 32 0 }
 {
     let mut bytes = [0u8; 32];
-    let mut i = 0;
-    while i < 32 {
+    for i in 0..32 {
         let b = byte(key, i);
         bytes[i] = b;
-        i += 1;
     }
     bytes
 }
@@ -165,11 +146,9 @@ fn kept_values(set: BandSet, n: usize) -> [Tenths; 16]
     ensures { result ≡ listed (kept_value set n) 16 0 }
 {
     let mut values = [Tenths(0); 16];
-    let mut i = 0;
-    while i < 16 {
+    for i in 0..16 {
         let value = kept_value(set, n, i);
         values[i] = value;
-        i += 1;
     }
     values
 }

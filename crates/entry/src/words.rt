@@ -9,10 +9,8 @@ fn word(customer: u64, key: &[u8]) -> u32
     ensures { result ≡ word_to customer key.now (length key.now) }
 {
     let mut sum = customer % 4294967296;
-    let mut i = 0;
-    while i < key.len() {
+    for i in 0..key.len() {
         sum = (sum * 33 + key[i] as u64) % 4294967296;
-        i += 1;
     }
     sum as u32
 }

@@ -16,13 +16,12 @@ use Rattle.quantity.specs.declared.quantities.Hundredths.{Hundredths}
 use Rattle.quantity.specs.declared.quantities.Reading.{Reading}
 use Rattle.quantity.specs.declared.quantities.Reading.TheVariants.{Level, Limit, Missing}
 use Rattle.quantity.specs.declared.refusals.Refusal.TheVariants.{BandRange, TimeRange}
-use Rattle.intake.specs.declared.singles.Taken.TheVariants as one
-use Rattle.intake.specs.declared.singles.Time.TheVariants as time
 use Rattle.intake.specs.Nearest.{nearest}
-use Rattle.intake.specs.Taken.{float_taken, taken_of}
+use Rattle.intake.specs.Taken.{taken, float_taken, taken_of}
 use Rattle.intake.specs.Times.{in_time, time_of}
 use Rattle.intake.proofs.Nearest.{IsNearest, is-nearest, nearest-unique}
 use Rattle.laws.proofs.Tests.{clash}
+use Rattle.std.specs.Prelude.{Ok, Err}
 
 -- ---- "the tenth nearest its exact binary value, a tie going to the greater": 2 t - 1 <= 2 scale value < 2 t + 1, and no other t
 
@@ -35,12 +34,12 @@ float-only scale s m e t h = nearest-unique s (scale * (m * up e)) (down e) t (d
 -- two constructors are never equal
 -- ---- what was taken is in range
 
-by-range : (b limit : Bool) (t : ℤ) (v : Tenths) (l : Bool) → cond b (one.Value (record { 0 = t }) limit) (one.Refused BandRange) ≡ one.Value v l
+by-range : (b limit : Bool) (t : ℤ) (v : Tenths) (l : Bool) → cond b (Ok (taken t limit)) (Err BandRange) ≡ Ok (record { value = v; limit = l })
     → (b ≡ true) × (t ≡ v.0)
 by-range true limit t v l e = (refl, cc)
 by-range false limit t v l e = clash cc
 
-float-range : (limit : Bool) (x : Float) (v : Tenths) (l : Bool) → float_taken limit x ≡ one.Value v l → in_range v.0 ≡ true
+float-range : (limit : Bool) (x : Float) (v : Tenths) (l : Bool) → float_taken limit x ≡ Ok (record { value = v; limit = l }) → in_range v.0 ≡ true
 unfolding float_taken
 float-range limit nan v l e = clash cc
 float-range limit (inf s) v l e = clash cc
@@ -49,13 +48,13 @@ float-range limit (fin s m k) v l e =
     let r = by-range (in_range t) limit t v l e in
     ap in_range (sym r.1) ∙ r.0
 
-pub taken-range : (r : Reading) (v : Tenths) (l : Bool) → taken_of r ≡ one.Value v l → in_range v.0 ≡ true
+pub taken-range : (r : Reading) (v : Tenths) (l : Bool) → taken_of r ≡ Ok (record { value = v; limit = l }) → in_range v.0 ≡ true
 unfolding taken_of
 taken-range (Level x) v l e = float-range false x v l e
 taken-range (Limit x) v l e = float-range true x v l e
 taken-range Missing v l e = clash cc
 
-by-time : (b : Bool) (t : ℤ) (h : Hundredths) → cond b (time.Value (record { 0 = P t })) (time.Refused TimeRange) ≡ time.Value h
+by-time : (b : Bool) (t : ℤ) (h : Hundredths) → cond b (Ok (record { 0 = P t })) (Err TimeRange) ≡ Ok h
     → (b ≡ true) × (P t ≡ h.0)
 by-time true t h e = (refl, cc)
 by-time false t h e = clash cc
@@ -70,7 +69,7 @@ time-bounds (pos n) e = go (leb 10 n) (leb n 2000) refl refl e
     go false b f g h = clash cc
 time-bounds (negsuc n) e = clash cc
 
-pub time-range : (x : Float) (h : Hundredths) → time_of x ≡ time.Value h → (10 ≤ h.0) × (h.0 ≤ 2000)
+pub time-range : (x : Float) (h : Hundredths) → time_of x ≡ Ok h → (10 ≤ h.0) × (h.0 ≤ 2000)
 unfolding time_of
 time-range nan h e = clash cc
 time-range (inf s) h e = clash cc

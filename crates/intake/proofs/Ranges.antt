@@ -18,14 +18,14 @@ use Rattle.quantity.proofs.Rim.{range-low, range-high}
 use Rattle.quantity.specs.declared.refusals.Refusal.TheVariants.{NotFinite, BandRange, TimeRange}
 use Rattle.intake.specs.declared.rounding.Whole.{Whole}
 use Rattle.intake.specs.declared.rounding.Whole.TheVariants as whole
-use Rattle.intake.specs.declared.singles.Taken.{Taken}
-use Rattle.intake.specs.declared.singles.Taken.TheVariants as one
-use Rattle.intake.specs.declared.singles.Time.{Time}
-use Rattle.intake.specs.declared.singles.Time.TheVariants as time
 use Rattle.intake.specs.Nearest.{nearest, whole_of}
-use Rattle.intake.specs.Taken.{ranged, float_taken}
+use Rattle.intake.specs.Taken.{taken, ranged, float_taken}
 use Rattle.intake.specs.Times.{in_time, timed, time_of}
 use Rattle.intake.proofs.Nearest.{Near, near}
+use Rattle.std.specs.Prelude.{Result, Ok, Err}
+use Rattle.quantity.specs.declared.quantities.Hundredths.{Hundredths}
+use Rattle.quantity.specs.declared.refusals.Refusal.{Refusal}
+use Rattle.intake.specs.declared.singles.Taken.{Taken}
 
 -- ---- far from 0
 
@@ -79,12 +79,12 @@ by_units f scale s m e h out = go (ltb (m * up e) (256 * down e)) (λ k. ltb-fal
     go true g = refl
     go false g = out (beyond scale s m e h (g refl))
 
-abbrev pub taken_by : Bool → Whole → Taken
+abbrev pub taken_by : Bool → Whole → Result Taken Refusal
 taken_by limit (whole.Units t) = ranged limit t
-taken_by limit whole.Beyond = one.Refused BandRange
-taken_by limit whole.NotFinite = one.Refused NotFinite
+taken_by limit whole.Beyond = Err BandRange
+taken_by limit whole.NotFinite = Err NotFinite
 
-out_of_range : (limit : Bool) (t : ℤ) → in_range t ≡ false → one.Refused BandRange ≡ ranged limit t
+out_of_range : (limit : Bool) (t : ℤ) → in_range t ≡ false → Err BandRange ≡ ranged limit t
 out_of_range limit t k = rw k
 
 pub taken-by : (limit : Bool) (x : Float) → taken_by limit (whole_of 10 x) ≡ float_taken limit x
@@ -96,12 +96,12 @@ taken-by limit (fin s m e) =
     by_units (taken_by limit) 10 s m e (omega arith)
     (⊎_elim (λ p. out_of_range limit t (sym (range-high t (omega arith)))) (λ p. out_of_range limit t (sym (range-low t (omega arith)))))
 
-abbrev pub time_by : Whole → Time
+abbrev pub time_by : Whole → Result Hundredths Refusal
 time_by (whole.Units t) = timed t
-time_by whole.Beyond = time.Refused TimeRange
-time_by whole.NotFinite = time.Refused NotFinite
+time_by whole.Beyond = Err TimeRange
+time_by whole.NotFinite = Err NotFinite
 
-out-of-time : (t : ℤ) → in_time t ≡ false → time.Refused TimeRange ≡ timed t
+out-of-time : (t : ℤ) → in_time t ≡ false → Err TimeRange ≡ timed t
 out-of-time t k = rw k
 
 pub time-by : (x : Float) → time_by (whole_of 100 x) ≡ time_of x
@@ -128,23 +128,23 @@ alike (fin s m e) k = tt
 -- ---- the exits where the float is in units: z is what the code holds of t
 
 pub taken_in : (limit : Bool) (x : Float) (w : Whole) (z t : ℤ) → z ≡ t → in_range z ≡ true → w ≡ whole.Units t → w ≡ whole_of 10 x
-    → one.Value (record { 0 = z }) limit ≡ float_taken limit x
+    → Ok (taken z limit) ≡ float_taken limit x
 taken_in limit x w z t b k e f = in-range ∙ ap (taken_by limit) (ap whole.Units b ∙ sym e ∙ f) ∙ taken-by limit x
   where
-    in-range : one.Value (record { 0 = z }) limit ≡ ranged limit z
+    in-range : Ok (taken z limit) ≡ ranged limit z
     in-range = rw k
 
 pub taken_out : (limit : Bool) (x : Float) (w : Whole) (z t : ℤ) → z ≡ t → in_range z ≡ false → w ≡ whole.Units t → w ≡ whole_of 10 x
-    → one.Refused BandRange ≡ float_taken limit x
+    → Err BandRange ≡ float_taken limit x
 taken_out limit x w z t b k e f = out_of_range limit z k ∙ ap (taken_by limit) (ap whole.Units b ∙ sym e ∙ f) ∙ taken-by limit x
 
 pub time-in : (x : Float) (w : Whole) (n : ℕ) (t : ℤ) → n ≡ P t → in_time t ≡ true → w ≡ whole.Units t → w ≡ whole_of 100 x
-    → time.Value (record { 0 = n }) ≡ time_of x
+    → Ok (record { 0 = n }) ≡ time_of x
 time-in x w n t b k e f = in-range ∙ ap time_by (sym e ∙ f) ∙ time-by x
   where
-    in-range : time.Value (record { 0 = n }) ≡ timed t
+    in-range : Ok (record { 0 = n }) ≡ timed t
     in-range = rw (k, b)
 
 pub time-out : (x : Float) (w : Whole) (t : ℤ) → in_time t ≡ false → w ≡ whole.Units t → w ≡ whole_of 100 x
-    → time.Refused TimeRange ≡ time_of x
+    → Err TimeRange ≡ time_of x
 time-out x w t k e f = out-of-time t k ∙ ap time_by (sym e ∙ f) ∙ time-by x

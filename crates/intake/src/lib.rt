@@ -8,4 +8,4 @@
 mod rounding;
 mod singles;
 
-pub use singles::{Taken, Time, take_float, take_reading, take_time};
+pub use singles::{Taken, take_float, take_reading, take_time};

@@ -7,66 +7,55 @@ use crate::rounding::{Whole, round};
 use quantity::signed::above;
 use quantity::{Hundredths, Reading, Refusal, Tenths};
 
-// What intake makes of a reading: its tenths and whether it is a limit value, or a refusal.
+// What intake makes of a reading: its tenths, and whether it is a limit value.
 #[derive(Clone, Copy)]
-pub enum Taken {
-    Value(Tenths, bool),
-    Refused(Refusal),
-}
-
-// What intake makes of a reverberation time.
-#[derive(Clone, Copy)]
-pub enum Time {
-    Value(Hundredths),
-    Refused(Refusal),
+pub struct Taken {
+    pub value: Tenths,
+    pub limit: bool,
 }
 
 // A float as a band value in tenths, with the mark that its reading bears. The range is tested after rounding.
-pub fn take_float(x: f32, limit: bool) -> Taken
+pub fn take_float(x: f32, limit: bool) -> Result<Taken, Refusal>
     ensures { result ≡ float_taken limit x }
 {
-    let whole = round(x, 10);
-    match whole {
+    match round(x, 10) {
         Whole::Units(t) => {
             let value = Tenths(t);
             if value.in_range() {
-                Taken::Value(value, limit)
+                Ok(Taken { value, limit })
             } else {
-                Taken::Refused(Refusal::BandRange)
+                Err(Refusal::BandRange)
             }
         }
-        Whole::Beyond => Taken::Refused(Refusal::BandRange),
-        Whole::NotFinite => Taken::Refused(Refusal::NotFinite),
+        Whole::Beyond => Err(Refusal::BandRange),
+        Whole::NotFinite => Err(Refusal::NotFinite),
     }
 }
 
 // A reading as a band value: a missing one is refused before its float could be.
-pub fn take_reading(reading: Reading) -> Taken
+pub fn take_reading(reading: Reading) -> Result<Taken, Refusal>
     ensures { result ≡ taken_of reading }
 {
     match reading {
         Reading::Level(x) => take_float(x, false),
         Reading::Limit(x) => take_float(x, true),
-        Reading::Missing => Taken::Refused(Refusal::ReadingMissing),
+        Reading::Missing => Err(Refusal::ReadingMissing),
     }
 }
 
 // A float in seconds as hundredths of a second, 0.10 to 20.00 s. The range is tested after rounding.
-pub fn take_time(x: f32) -> Time
+pub fn take_time(x: f32) -> Result<Hundredths, Refusal>
     ensures { result ≡ time_of x }
 {
-    let whole = round(x, 100);
-    match whole {
+    match round(x, 100) {
         Whole::Units(t) => {
-            if t < 10 {
-                return Time::Refused(Refusal::TimeRange);
+            if t < 10 || 2000 < t {
+                Err(Refusal::TimeRange)
+            } else {
+                Ok(Hundredths(above(t, 0)))
             }
-            if 2000 < t {
-                return Time::Refused(Refusal::TimeRange);
-            }
-            Time::Value(Hundredths(above(t, 0)))
         }
-        Whole::Beyond => Time::Refused(Refusal::TimeRange),
-        Whole::NotFinite => Time::Refused(Refusal::NotFinite),
+        Whole::Beyond => Err(Refusal::TimeRange),
+        Whole::NotFinite => Err(Refusal::NotFinite),
     }
 }

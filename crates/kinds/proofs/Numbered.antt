@@ -3,12 +3,12 @@ use mathlib.Core.Path.{◌≡◌, refl, ap}
 use Prim.Native.Nat.{ℕ, zero, suc}
 use Rattle.kinds.specs.declared.kinds.Kind.{Kind}
 use Rattle.kinds.specs.declared.kinds.Kind.TheVariants.{A3, A1, I3, I1}
-use Rattle.kinds.specs.declared.kinds.Named.TheVariants.{Is, Unknown}
 use Rattle.kinds.specs.Kinds.{kind_of, kind_number}
 use Rattle.laws.proofs.Tests.{clash}
+use Rattle.std.specs.Prelude.{Some, None}
 
 -- a number that is none of the four
-pub unknown : (n : ℕ) → (n ≡ 0 → ⊥) → (n ≡ 1 → ⊥) → (n ≡ 2 → ⊥) → (n ≡ 3 → ⊥) → Unknown ≡ kind_of n
+pub unknown : (n : ℕ) → (n ≡ 0 → ⊥) → (n ≡ 1 → ⊥) → (n ≡ 2 → ⊥) → (n ≡ 3 → ⊥) → None ≡ kind_of n
 unknown zero a b c d = absurd (a refl)
 unknown (suc zero) a b c d = absurd (b refl)
 unknown (suc (suc zero)) a b c d = absurd (c refl)
@@ -16,16 +16,16 @@ unknown (suc (suc (suc zero))) a b c d = absurd (d refl)
 unknown (suc (suc (suc (suc n)))) a b c d = refl
 
 -- there and back
-pub kind-of-number : (k : Kind) → kind_of (kind_number k) ≡ Is k
+pub kind-of-number : (k : Kind) → kind_of (kind_number k) ≡ Some k
 kind-of-number A3 = refl
 kind-of-number A1 = refl
 kind-of-number I3 = refl
 kind-of-number I1 = refl
 
-same : {j k : Kind} → Is j ≡ Is k → j ≡ k
+same : {j k : Kind} → Some j ≡ Some k → j ≡ k
 same e = cc
 
-pub kind-number-of : (n : ℕ) (k : Kind) → kind_of n ≡ Is k → n ≡ kind_number k
+pub kind-number-of : (n : ℕ) (k : Kind) → kind_of n ≡ Some k → n ≡ kind_number k
 kind-number-of zero k e = ap kind_number (same e)
 kind-number-of (suc zero) k e = ap kind_number (same e)
 kind-number-of (suc (suc zero)) k e = ap kind_number (same e)

@@ -1,10 +1,8 @@
 -- Document 01, "Quantities and ranges": what each kind owns; the spectra of "Sums of energies" (000, table 3.1.3); and kinds by
 -- their numbers.
-use Rattle.std.specs.Prelude.{Bool, true, false, List, [], ◌∷◌, ℕ, zero, suc, ℤ, pos, neg_ℤ, get_or}
+use Rattle.std.specs.Prelude.{Bool, true, false, List, [], ◌∷◌, ℕ, zero, suc, ℤ, pos, neg_ℤ, get_or, Option, None, Some}
 use Rattle.kinds.specs.declared.kinds.Kind.{Kind}
 use Rattle.kinds.specs.declared.kinds.Kind.TheVariants.{A3, A1, I3, I1}
-use Rattle.kinds.specs.declared.kinds.Named.{Named}
-use Rattle.kinds.specs.declared.kinds.Named.TheVariants.{Is, Unknown}
 
 abbrev pub neg : ℕ → ℤ
 neg n = neg_ℤ (pos n)
@@ -59,12 +57,12 @@ unfoldable pub Ctr : Kind → ℕ → ℤ
 Ctr k i = get_or (spectra_ctr k) i (pos 0)
 
 -- the kind of a number
-abbrev pub kind_of : ℕ → Named
-kind_of zero = Is A3
-kind_of (suc zero) = Is A1
-kind_of (suc (suc zero)) = Is I3
-kind_of (suc (suc (suc zero))) = Is I1
-kind_of (suc (suc (suc (suc n)))) = Unknown
+abbrev pub kind_of : ℕ → Option Kind
+kind_of zero = Some A3
+kind_of (suc zero) = Some A1
+kind_of (suc (suc zero)) = Some I3
+kind_of (suc (suc (suc zero))) = Some I1
+kind_of (suc (suc (suc (suc n)))) = None
 
 -- and the number of a kind
 abbrev pub kind_number : Kind → ℕ

@@ -6,8 +6,29 @@ ghost use Rattle.curve.specs.Levels.{plain_at, Ranged, Levels};
 ghost use Rattle.kinds.specs.Kinds.{airborne, bands_of};
 ghost use Rattle.kinds.specs.Numbers.{entries_of, first_of, second_of};
 
-use crate::kinds::{A1Kind, A3Kind, I1Kind, I3Kind, Kind};
+use crate::kinds::{A1Kind, A3Kind, I1Kind, I3Kind, Kind, RatingKind};
 use curve::levels::levels;
+
+fn curve_levels<K: RatingKind>(values: &[i32; 16]) -> [u32; 16]
+    requires { Ranged values.now (bands_of K.kind) }
+    ensures { Levels (airborne K.kind) (plain_at values.now) (entries_of K.kind) (bands_of K.kind) result }
+{
+    levels(values, K::BANDS, K::AIRBORNE, K::reference())
+}
+
+fn first_levels<K: RatingKind>(values: &[i32; 16]) -> [u32; 16]
+    requires { Ranged values.now (bands_of K.kind) }
+    ensures { Levels (airborne K.kind) (plain_at values.now) (first_of K.kind) (bands_of K.kind) result }
+{
+    levels(values, K::BANDS, K::AIRBORNE, K::first())
+}
+
+fn second_levels<K: RatingKind>(values: &[i32; 16]) -> [u32; 16]
+    requires { Ranged values.now (bands_of K.kind) }
+    ensures { Levels (airborne K.kind) (plain_at values.now) (second_of K.kind) (bands_of K.kind) result }
+{
+    levels(values, K::BANDS, K::AIRBORNE, K::second())
+}
 
 // By the reference curve.
 pub fn by_curve(kind: Kind, values: &[i32; 16]) -> [u32; 16]
@@ -15,10 +36,10 @@ pub fn by_curve(kind: Kind, values: &[i32; 16]) -> [u32; 16]
     ensures { Levels (airborne kind) (plain_at values.now) (entries_of kind) (bands_of kind) result }
 {
     match kind {
-        Kind::A3 => levels(values, A3Kind::BANDS, true, A3Kind::reference()),
-        Kind::A1 => levels(values, A1Kind::BANDS, true, A1Kind::reference()),
-        Kind::I3 => levels(values, I3Kind::BANDS, false, I3Kind::reference()),
-        Kind::I1 => levels(values, I1Kind::BANDS, false, I1Kind::reference()),
+        Kind::A3 => curve_levels::<A3Kind>(values),
+        Kind::A1 => curve_levels::<A1Kind>(values),
+        Kind::I3 => curve_levels::<I3Kind>(values),
+        Kind::I1 => curve_levels::<I1Kind>(values),
     }
 }
 
@@ -28,10 +49,10 @@ pub fn by_first(kind: Kind, values: &[i32; 16]) -> [u32; 16]
     ensures { Levels (airborne kind) (plain_at values.now) (first_of kind) (bands_of kind) result }
 {
     match kind {
-        Kind::A3 => levels(values, A3Kind::BANDS, true, A3Kind::spectrum_c()),
-        Kind::A1 => levels(values, A1Kind::BANDS, true, A1Kind::spectrum_c()),
-        Kind::I3 => levels(values, I3Kind::BANDS, false, I3Kind::spectrum()),
-        Kind::I1 => levels(values, I1Kind::BANDS, false, I1Kind::spectrum()),
+        Kind::A3 => first_levels::<A3Kind>(values),
+        Kind::A1 => first_levels::<A1Kind>(values),
+        Kind::I3 => first_levels::<I3Kind>(values),
+        Kind::I1 => first_levels::<I1Kind>(values),
     }
 }
 
@@ -41,9 +62,9 @@ pub fn by_second(kind: Kind, values: &[i32; 16]) -> [u32; 16]
     ensures { Levels (airborne kind) (plain_at values.now) (second_of kind) (bands_of kind) result }
 {
     match kind {
-        Kind::A3 => levels(values, A3Kind::BANDS, true, A3Kind::spectrum_ctr()),
-        Kind::A1 => levels(values, A1Kind::BANDS, true, A1Kind::spectrum_ctr()),
-        Kind::I3 => levels(values, I3Kind::BANDS, false, I3Kind::spectrum()),
-        Kind::I1 => levels(values, I1Kind::BANDS, false, I1Kind::spectrum()),
+        Kind::A3 => second_levels::<A3Kind>(values),
+        Kind::A1 => second_levels::<A1Kind>(values),
+        Kind::I3 => second_levels::<I3Kind>(values),
+        Kind::I1 => second_levels::<I1Kind>(values),
     }
 }

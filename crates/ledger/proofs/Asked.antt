@@ -18,19 +18,13 @@ use Rattle.quantity.specs.declared.quantities.BandSet.{BandSet}
 use Rattle.quantity.specs.declared.quantities.Fen.{Fen}
 use Rattle.quantity.specs.declared.refusals.Refusal.TheVariants.{NotARequest, PriceRange, OtherBands, RegisterFull, RegisterDamaged}
 use Rattle.kinds.specs.declared.kinds.Kind.{Kind}
-use Rattle.kinds.specs.declared.kinds.Named.TheVariants.{Is}
 use Rattle.kinds.specs.Kinds.{bands_of, kind_of, kind_number}
 use Rattle.kinds.proofs.Numbered.{kind-of-number}
 use Rattle.rating.specs.declared.sheets.Sheet.{Sheet}
-use Rattle.rating.specs.declared.sheets.Rated.{Rated}
-use Rattle.rating.specs.declared.sheets.Rated.TheVariants as rating
 use Rattle.rating.specs.Sheets.{rated_of}
 use Rattle.rating.proofs.Theorems.{Stated, past-length}
 use Rattle.entry.specs.declared.entries.Entry.{Entry}
 use Rattle.register.specs.declared.registers.Register.{Register}
-use Rattle.register.specs.declared.steps.Billed.{Billed}
-use Rattle.register.specs.declared.steps.Billed.TheVariants.{Charged, Refused}
-use Rattle.register.specs.declared.totals.Owed.{Owed}
 use Rattle.entry.specs.Entries.{bands_by, bands_in, marks_to, same_key, same_bands, Call, call_of, kept_value, entry_of}
 use Rattle.register.specs.Registers.{opened, entry_at, sound, known, held, place_due, rated_due, due_of, billed_of, with_entry, after_of, owed_of, Due}
 use Rattle.register.specs.Registers.Due.{refuse}
@@ -50,6 +44,9 @@ use Rattle.register.proofs.Seen.Seen.{turned, retried, added}
 use Rattle.laws.proofs.Ranges.{any_some, Some}
 use Rattle.entry.proofs.Texts.{key-trans, text-made}
 use Rattle.rating.proofs.Small.{rated-by}
+use Rattle.std.specs.Prelude.{Result, Ok, Err, Some}
+use Rattle.register.specs.declared.steps.Billed.{Billed}
+use Rattle.quantity.specs.declared.refusals.Refusal.{Refusal}
 
 -- ---- what lies past a stated length never matters
 module _ (r : Register) (customer : ℕ) (key : List ℕ) (k : Kind) (s t : BandSet) (price : ℕ) (same : Stated s t) where
@@ -59,7 +56,7 @@ module _ (r : Register) (customer : ℕ) (key : List ℕ) (k : Kind) (s t : Band
   abbrev y : Call
   y = call_of customer key k t price
 
-  entry_past : (sheet : Sheet) → rated_of k s ≡ rating.Rating sheet → entry_of x ≡ entry_of y
+  entry_past : (sheet : Sheet) → rated_of k s ≡ Ok sheet → entry_of x ≡ entry_of y
   unfolding entry_of
   entry_past sheet e = λ i. record {
     customer = customer;
@@ -74,15 +71,15 @@ module _ (r : Register) (customer : ℕ) (key : List ℕ) (k : Kind) (s t : Band
       len : s.len ≡ bands_of k
       len = (rated-by k s sheet e).len
 
-  rated-past : (d : Rated) → rated_of k s ≡ d → rated_due d r x ≡ rated_due d r y
-  rated-past (rating.Refused refusal) e = refl
-  rated-past (rating.Rating sheet) e = ap (λ (f : Entry). cond (priced price) (place_due r f sheet) (refuse PriceRange)) (entry_past sheet e)
+  rated-past : (d : Result Sheet Refusal) → rated_of k s ≡ d → rated_due d r x ≡ rated_due d r y
+  rated-past (Err refusal) e = refl
+  rated-past (Ok sheet) e = ap (λ (f : Entry). cond (priced price) (place_due r f sheet) (refuse PriceRange)) (entry_past sheet e)
 
   due-past : due_of r x ≡ due_of r y
   unfolding due_of
   due-past =
       ap (λ (d : Due). cond (sound r) (cond (key_shape key) d (refuse NotARequest)) (refuse RegisterDamaged))
-      (rated-past (rated_of k s) refl ∙ ap (λ (d : Rated). rated_due d r y) (past-length k s t same))
+      (rated-past (rated_of k s) refl ∙ ap (λ (d : Result Sheet Refusal). rated_due d r y) (past-length k s t same))
 
   pub bill-past : billed_of r x ≡ billed_of r y
   bill-past = billed-is r x due-past ∙ sym (billed-is r y refl)
@@ -103,7 +100,7 @@ module _ (x y : Call) where
   abbrev n : ℕ
   n = bands_of x.kind
 
-  again-made : (sheet other : Sheet) → rated_of x.kind x.set ≡ rating.Rating sheet → rated_of y.kind y.set ≡ rating.Rating other
+  again-made : (sheet other : Sheet) → rated_of x.kind x.set ≡ Ok sheet → rated_of y.kind y.set ≡ Ok other
       → x.customer ≡ y.customer → x.key ≡ y.key → OneBands (entry_of x) (entry_of y) → Again x y
   unfolding entry_of
   again-made sheet other e f c t o = record {
@@ -122,7 +119,7 @@ module _ (x y : Call) where
     where
       kinds : x.kind ≡ y.kind
       kinds =
-          let q : Is x.kind ≡ Is y.kind = sym (kind-of-number x.kind) ∙ ap kind_of o.kind ∙ kind-of-number y.kind in
+          let q : Some x.kind ≡ Some y.kind = sym (kind-of-number x.kind) ∙ ap kind_of o.kind ∙ kind-of-number y.kind in
           cc
 
       bands : bands_by (kind_of (kind_number x.kind)) ≡ n
@@ -139,10 +136,10 @@ through {d} {e} {f} p q =
     }
 
 -- "same customer and key with another kind or other bands", after any calls in between that do not close the customer
-pub other-bands : (h : Calls) (x : Call) (sheet : Sheet) (now : Fen) → billed_of (left h) x ≡ Charged sheet now
+pub other-bands : (h : Calls) (x : Call) (sheet : Sheet) (now : Fen) → billed_of (left h) x ≡ Ok sheet now
     → (more : Calls) → spares x.customer more ≡ true → (y : Call) (other : Sheet)
-    → x.customer ≡ y.customer → x.key ≡ y.key → rated_of y.kind y.set ≡ rating.Rating other → priced y.price ≡ true → (Again x y → ⊥)
-    → billed_of (left (onward (next h x) more)) y ≡ Refused OtherBands
+    → x.customer ≡ y.customer → x.key ≡ y.key → rated_of y.kind y.set ≡ Ok other → priced y.price ≡ true → (Again x y → ⊥)
+    → billed_of (left (onward (next h x) more)) y ≡ Err OtherBands
 unfolding held
 other-bands h x sheet now e more spared y other c t rated p f = billed-is s y (placed s y other taken ∙ due-other s (entry_of y) other i.at i.below theirs whole differ)
   where
@@ -186,22 +183,22 @@ unfolding with_entry
 count-step h x (turned n w d) =
     ap (λ (s : Register). s.count) (after_is (left h) x d)
     ∙ sym (add-zero (left h).count)
-    ∙ ap (λ (b : Billed). (left h).count + one_if (accepted b && not (in_use (told h) x))) (sym (billed-is (left h) x d))
+    ∙ ap (λ (b : Result Billed Refusal). (left h).count + one_if (accepted b && not (in_use (told h) x))) (sym (billed-is (left h) x d))
 count-step h x (retried sheet t k d) =
     ap (λ (s : Register). s.count) (after_is (left h) x d)
     ∙ sym (add-zero (left h).count)
     ∙ sym
-    (ap₂ (λ (b : Billed) (u : Bool). (left h).count + one_if (accepted b && not u)) (billed-is (left h) x d)
+    (ap₂ (λ (b : Result Billed Refusal) (u : Bool). (left h).count + one_if (accepted b && not u)) (billed-is (left h) x d)
     (used-known h x t.shape ∙ held-known (left h) (entry_of x) k))
 count-step h x (added sheet t k room d) =
     ap (λ (s : Register). s.count) (after_is (left h) x d)
     ∙ sym
-    (ap₂ (λ (b : Billed) (u : Bool). (left h).count + one_if (accepted b && not u)) (billed-is (left h) x d) (used-known h x t.shape ∙ k))
+    (ap₂ (λ (b : Result Billed Refusal) (u : Bool). (left h).count + one_if (accepted b && not u)) (billed-is (left h) x d) (used-known h x t.shape ∙ k))
 
 count-closed : (h : Calls) (c : ℕ) → (left h).count ≡ keys (told h) → (closed_of (left h) c).count ≡ keys (told h) - cond (settled (owed_of (left h) c)) (keys_of c (since c (told h))) 0
 count-closed h c ih =
     let s : (closed_of (left h) c).count ≡ (without (left h) c).count = ap (λ (r : Register). r.count) (closed_is (left h) c (left_grown h).whole) in
-    let o : cond (settled (owed_of (left h) c)) (keys_of c (since c (told h))) 0 ≡ keys_of c (since c (told h)) = ap (λ (o : Owed). cond (settled o) (keys_of c (since c (told h))) 0) (owed-left h c) in
+    let o : cond (settled (owed_of (left h) c)) (keys_of c (since c (told h))) 0 ≡ keys_of c (since c (told h)) = ap (λ (o : Result Fen Refusal). cond (settled o) (keys_of c (since c (told h))) 0) (owed-left h c) in
     omega (arith, s, o, ih, count-without (left h) c (left-most h), keys-left h c)
 
 pub count_left : (h : Calls) → (left h).count ≡ keys (told h)
@@ -211,7 +208,7 @@ count_left (next h x) =
     count-step h x (seen (left h) x) ∙ ap (λ (n : ℕ). n + one_if (accepted (billed_of (left h) x) && not (in_use (told h) x))) (count_left h)
 count_left (close h c) = count-closed h c (count_left h)
 
-module _ (h : Calls) (x : Call) (sheet : Sheet) (shape : key_shape x.key ≡ true) (rated : rated_of x.kind x.set ≡ rating.Rating sheet)
+module _ (h : Calls) (x : Call) (sheet : Sheet) (shape : key_shape x.key ≡ true) (rated : rated_of x.kind x.set ≡ Ok sheet)
     (price : priced x.price ≡ true) (fresh : in_use (told h) x ≡ false) where
   taken : Taken (left h) x sheet
   taken = record { whole = (left_grown h).whole; shape = shape; rated = rated; price = price }
@@ -220,14 +217,14 @@ module _ (h : Calls) (x : Call) (sheet : Sheet) (shape : key_shape x.key ≡ tru
   new = sym (used-known h x shape) ∙ fresh
 
   -- "A new key is entered and charged"
-  pub new-charged : keys (told h) < 512 → billed_of (left h) x ≡ Charged sheet (record { 0 = x.price })
+  pub new-charged : keys (told h) < 512 → billed_of (left h) x ≡ Ok sheet (record { 0 = x.price })
   new-charged room =
       billed-is (left h) x
       (placed (left h) x sheet taken
       ∙ place-free (left h) (entry_of x) sheet (unknown-held (left h) (entry_of x) new) new (lt-ltb (left h).count 512 (omega (arith, count_left h))))
 
   -- "18 no room for a new key"
-  pub new-refused : 512 ≤ keys (told h) → billed_of (left h) x ≡ Refused RegisterFull
+  pub new-refused : 512 ≤ keys (told h) → billed_of (left h) x ≡ Err RegisterFull
   new-refused many =
       billed-is (left h) x
       (placed (left h) x sheet taken

@@ -15,7 +15,6 @@ use Rattle.laws.proofs.Sums.{sum_same, sum_zeros}
 use Rattle.laws.proofs.Tests.{never}
 use Rattle.entry.specs.declared.entries.Entry.{Entry}
 use Rattle.register.specs.declared.registers.Register.{Register}
-use Rattle.register.specs.declared.totals.Owed.TheVariants as owed
 use Rattle.entry.specs.Entries.{Call, entry_of, no_entry}
 use Rattle.register.specs.Registers.{opened, past_end, entry_at, sound, after_of, with_entry, price_for, total_in, owed_of}
 use Rattle.ledger.specs.Closings.{others, moved_to, without, closed_of, Among, Moved, Cleared}
@@ -28,6 +27,7 @@ use Rattle.ledger.proofs.Rest.{rest, rest-by, room, without-count, without_at}
 use Rattle.register.proofs.Seen.{Seen, seen}
 use Rattle.register.proofs.Seen.Seen.{turned, retried, added}
 use Rattle.register.proofs.Soundness.{owed-total}
+use Rattle.std.specs.Prelude.{Ok}
 
 -- where the entries of the others came from, among the first n
 record Came (customer : ℕ) (r : Register) (n : ℕ) (s : Register) : Type 0 where
@@ -233,10 +233,10 @@ module _ (r : Register) (c : ℕ) (alone : (i : ℕ) → i < r.count → (entry_
       go false q = closed-not r c q
 
   -- "hands out 0"
-  pub none-handed : sound r ≡ true → owed_of r c ≡ owed.Total (record { 0 = 0 })
+  pub none-handed : sound r ≡ true → owed_of r c ≡ Ok (record { 0 = 0 })
   unfolding total_in price_for
   none-handed whole =
       sym (owed-total r c (record { 0 = total_in r c }) whole refl)
-      ∙ ap (λ (n : ℕ). owed.Total (record { 0 = n }))
+      ∙ ap (λ (n : ℕ). Ok (record { 0 = n }))
       (sum_same (λ i. price_for c (entry_at r i)) (λ i. 0) r.count (λ i h. ap (λ (b : Bool). cond b (entry_at r i).price.0 0) (ne_eqb (entry_at r i).customer c (alone i h)))
       ∙ sum_zeros r.count)

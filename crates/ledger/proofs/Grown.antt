@@ -26,12 +26,10 @@ use Rattle.laws.specs.Tests.{all_to, any_to}
 use Rattle.laws.proofs.Ranges.{all_more, all_same, any_same}
 use Rattle.curve.proofs.Searched.{count_most}
 use Rattle.kinds.specs.declared.kinds.Kind.{Kind}
-use Rattle.kinds.specs.declared.kinds.Named.{Named}
 use Rattle.kinds.specs.Kinds.{bands_of}
 use Rattle.kinds.proofs.Facts.{count-of}
 use Rattle.kinds.proofs.Numbered.{kind-of-number}
 use Rattle.rating.specs.declared.sheets.Sheet.{Sheet}
-use Rattle.rating.specs.declared.sheets.Rated.TheVariants.{Rating}
 use Rattle.rating.specs.Sheets.{rated_of}
 use Rattle.rating.proofs.Theorems.{past-length}
 use Rattle.entry.specs.declared.entries.Entry.{Entry}
@@ -44,6 +42,7 @@ use Rattle.register.proofs.Soundness.{all-ok, all_apart}
 use Rattle.register.proofs.Seen.{Taken, Seen, seen}
 use Rattle.register.proofs.Seen.Seen.{turned, retried, added}
 use Rattle.rating.proofs.Small.{rated-by}
+use Rattle.std.specs.Prelude.{Ok, Option}
 
 -- ---- the entry of a call
 
@@ -72,8 +71,8 @@ value-kept s k i h =
     ∙ ap (λ (b : Bool). (cond b (get_or s.values i nought) nought).0) (lt-ltb i (bands_of k) h)
 
 -- what was entered is rated as what was asked
-pub rated-kept : (x : Call) (sheet : Sheet) → rated_of x.kind x.set ≡ Rating sheet
-    → rated_of x.kind (set_of x.kind (entry_of x)) ≡ Rating sheet
+pub rated-kept : (x : Call) (sheet : Sheet) → rated_of x.kind x.set ≡ Ok sheet
+    → rated_of x.kind (set_of x.kind (entry_of x)) ≡ Ok sheet
 unfolding entry_of
 rated-kept x sheet e =
     past-length x.kind (set_of x.kind (entry_of x)) x.set (record {
@@ -87,7 +86,7 @@ unfolding entry_ok entry_of
 entered-ok {r} {x} {sheet} t =
     both-made t.price
     (both-made
-    (ap (λ (n : Named). ratable n (entry_of x)) (kind-of-number x.kind) ∙ ap is_sheet (rated-kept x sheet t.rated))
+    (ap (λ (n : Option Kind). ratable n (entry_of x)) (kind-of-number x.kind) ∙ ap is_sheet (rated-kept x sheet t.rated))
     (both-made (le-leb (length x.key) 32 (short x.key t.shape))
     (ap key_shape (key-kept x (short x.key t.shape)) ∙ t.shape)))
 

@@ -12,12 +12,9 @@ use Rattle.quantity.specs.Quantities.{priced}
 use Rattle.quantity.specs.declared.refusals.Refusal.{Refusal}
 use Rattle.quantity.specs.declared.refusals.Refusal.TheVariants.{RegisterFull, RegisterDamaged}
 use Rattle.rating.specs.declared.sheets.Sheet.{Sheet}
-use Rattle.rating.specs.declared.sheets.Rated.TheVariants as rating
 use Rattle.rating.specs.Sheets.{rated_of}
 use Rattle.entry.specs.declared.entries.Entry.{Entry}
 use Rattle.register.specs.declared.registers.Register.{Register}
-use Rattle.register.specs.declared.steps.Billed.TheVariants as billed
-use Rattle.register.specs.declared.totals.Owed.TheVariants as owed
 use Rattle.entry.specs.Entries.{same_key, Call, entry_of}
 use Rattle.register.specs.Registers.{entry_at, sound, known, held, due_of, billed_of, owed_of}
 use Rattle.register.specs.Registers.Due.{refuse}
@@ -36,6 +33,7 @@ use Rattle.register.proofs.Seen.Seen.{turned, retried, added}
 use Rattle.register.proofs.Soundness.{sound-most}
 use Rattle.laws.proofs.Ranges.{any_some, Some}
 use Rattle.entry.proofs.Texts.{key-same}
+use Rattle.std.specs.Prelude.{Ok, Err, Some}
 
 -- ---- other customers
 
@@ -47,7 +45,7 @@ others-owed r c customer differ = go (sound r) refl
     go : (b : Bool) → sound r ≡ b → owed_of (closed_of r c) customer ≡ owed_of r customer
     go true q =
         ap (λ (s : Register). owed_of s customer) (closed_is r c q)
-        ∙ ap₂ (λ (b : Bool) (n : ℕ). cond b (owed.Total (record { 0 = n })) (owed.Refused RegisterDamaged)) (without-sound r c q ∙ sym q)
+        ∙ ap₂ (λ (b : Bool) (n : ℕ). cond b (Ok (record { 0 = n })) (Err RegisterDamaged)) (without-sound r c q ∙ sym q)
         (total-others r c (sound-most r q) customer differ)
     go false q = ap (λ (s : Register). owed_of s customer) (closed-not r c q)
 
@@ -85,18 +83,18 @@ module _ (r : Register) (c : ℕ) (x : Call) (differ : x.customer ≡ c → ⊥)
     why-same n (other {sheet} t h k) g = placed after x sheet (still t) ∙ place-known after e sheet (holds ∙ h) (knows ∙ k)
     why-same n (crowded t k m) g = absurd (g refl)
 
-    due-others : (billed_of r x ≡ billed.Refused RegisterFull → ⊥) → due_of after x ≡ due_of r x
+    due-others : (billed_of r x ≡ Err RegisterFull → ⊥) → due_of after x ≡ due_of r x
     due-others f = go (seen r x)
       where
         go : Seen r x → due_of after x ≡ due_of r x
-        go (turned n w d) = why-same n w (λ p. f (billed-is r x d ∙ ap billed.Refused p)) ∙ sym d
+        go (turned n w d) = why-same n w (λ p. f (billed-is r x d ∙ ap Err p)) ∙ sym d
         go (retried sheet t h d) = placed after x sheet (still t) ∙ place-held after e sheet (holds ∙ h) ∙ sym d
         go (added sheet t k room d) =
             placed after x sheet (still t)
             ∙ place-free after e sheet (unknown-held after e (knows ∙ k)) (knows ∙ k) (lt-ltb after.count 512 (omega (arith, fewer)))
             ∙ sym d
 
-  pub others-billed : (billed_of r x ≡ billed.Refused RegisterFull → ⊥) → billed_of (closed_of r c) x ≡ billed_of r x
+  pub others-billed : (billed_of r x ≡ Err RegisterFull → ⊥) → billed_of (closed_of r c) x ≡ billed_of r x
   others-billed f = go (sound r) refl
     where
       go : (b : Bool) → sound r ≡ b → billed_of (closed_of r c) x ≡ billed_of r x
@@ -139,7 +137,7 @@ freed h x shape inside =
     one = ap (λ (b : Bool). cond {A = ℕ} b 1 0) own
 
 -- so that it is entered and charged again, at its new price
-pub closed-charged : (h : Calls) (x : Call) (sheet : Sheet) → key_shape x.key ≡ true → rated_of x.kind x.set ≡ rating.Rating sheet
-    → priced x.price ≡ true → in_use (told h) x ≡ true → billed_of (left (close h x.customer)) x ≡ billed.Charged sheet (record { 0 = x.price })
+pub closed-charged : (h : Calls) (x : Call) (sheet : Sheet) → key_shape x.key ≡ true → rated_of x.kind x.set ≡ Ok sheet
+    → priced x.price ≡ true → in_use (told h) x ≡ true → billed_of (left (close h x.customer)) x ≡ Ok sheet (record { 0 = x.price })
 closed-charged h x sheet shape rated price inside =
     new-charged (close h x.customer) x sheet shape rated price (closed-new h x) (omega (arith, freed h x shape inside, count_left (close h x.customer)))

@@ -14,11 +14,11 @@ use Rattle.quantity.specs.declared.quantities.Fen.{Fen}
 use Rattle.quantity.specs.declared.refusals.Refusal.{Refusal}
 use Rattle.entry.specs.declared.entries.Entry.{Entry}
 use Rattle.register.specs.declared.registers.Register.{Register}
-use Rattle.register.specs.declared.totals.Owed.TheVariants.{Total, Refused}
 use Rattle.entry.specs.Entries.{no_entry}
 use Rattle.register.specs.Registers.{entry_at, sound, total_in, owed_of}
 use Rattle.ledger.specs.Closings.{others, moved_to, without, closed_of}
 use Rattle.register.proofs.Soundness.{owed-damaged, owed-total}
+use Rattle.std.specs.Prelude.{Ok, Err}
 
 -- the entry is this customer's
 abbrev pub theirs : ℕ → Entry → Bool
@@ -123,14 +123,14 @@ module _ (r : Register) (customer : ℕ) where
   unfolding closed_of
   closed-not broken = rw broken
 
-  pub total-sound : (t : Fen) → owed_of r customer ≡ Total t → sound r ≡ true
+  pub total-sound : (t : Fen) → owed_of r customer ≡ Ok t → sound r ≡ true
   total-sound t e =
       sure (sound r)
       (λ h.
       let d = owed-damaged r customer h in
       clash cc)
 
-  refused-damaged : (f : Refusal) → owed_of r customer ≡ Refused f → sound r ≡ false
+  refused-damaged : (f : Refusal) → owed_of r customer ≡ Err f → sound r ≡ false
   refused-damaged f e =
       refuted (sound r)
       (λ h.
@@ -138,8 +138,8 @@ module _ (r : Register) (customer : ℕ) where
       clash cc)
 
   -- "Refusals: 19, the register unchanged"
-  pub closed-refused : (f : Refusal) → owed_of r customer ≡ Refused f → closed_of r customer ≡ r
+  pub closed-refused : (f : Refusal) → owed_of r customer ≡ Err f → closed_of r customer ≡ r
   closed-refused f e = closed-not (refused-damaged f e)
 
-  pub closed-total : (t : Fen) → owed_of r customer ≡ Total t → closed_of r customer ≡ without r customer
+  pub closed-total : (t : Fen) → owed_of r customer ≡ Ok t → closed_of r customer ≡ without r customer
   closed-total t e = closed_is (total-sound t e)

@@ -23,18 +23,12 @@ use Rattle.laws.specs.Tests.{any_to}
 use Rattle.laws.proofs.Ranges.{all-at, any_same}
 use Rattle.kinds.specs.declared.kinds.Kind.{Kind}
 use Rattle.kinds.specs.declared.kinds.Kind.TheVariants.{A3}
-use Rattle.kinds.specs.declared.kinds.Named.{Named}
-use Rattle.kinds.specs.declared.kinds.Named.TheVariants.{Is, Unknown}
 use Rattle.kinds.specs.Kinds.{bands_of, kind_of, kind_number}
 use Rattle.kinds.proofs.Numbered.{kind-of-number, kind-number-of}
 use Rattle.rating.specs.declared.sheets.Sheet.{Sheet}
-use Rattle.rating.specs.declared.sheets.Rated.{Rated}
-use Rattle.rating.specs.declared.sheets.Rated.TheVariants.{Rating, Refused}
 use Rattle.rating.specs.Sheets.{asked, sheet_of, rated_of}
 use Rattle.entry.specs.declared.entries.Entry.{Entry}
 use Rattle.register.specs.declared.registers.Register.{Register}
-use Rattle.register.specs.declared.steps.Billed.TheVariants as billed
-use Rattle.register.specs.declared.totals.Owed.TheVariants as owed
 use Rattle.entry.specs.Entries.{key_of, set_of, bands_by, marks_to, same_key, is_sheet, ratable, keyed, entry_ok, Call, call_of, entry_of}
 use Rattle.register.specs.Registers.{opened, entry_at, sound, known, with_entry, due_of, billed_of, owed_of, total_in}
 use Rattle.register.specs.Registers.Due.{enter}
@@ -50,20 +44,21 @@ use Rattle.ledger.proofs.Sameness.{key-alike, sound-same}
 use Rattle.register.proofs.Seen.{Taken, Why, Seen, seen, placed}
 use Rattle.register.proofs.Seen.Why.{damaged, misshapen, unrated, dear, other, crowded}
 use Rattle.register.proofs.Seen.Seen.{turned, retried, added}
+use Rattle.std.specs.Prelude.{Result, Ok, Err, Option, Some, None}
 
 -- ---- the call that an entry tells of
-abbrev kind_by : Named → Kind
-kind_by (Is k) = k
-kind_by Unknown = A3
+abbrev kind_by : Option Kind → Kind
+kind_by (Some k) = k
+kind_by None = A3
 
 abbrev call_from : Entry → Call
 call_from e = call_of e.customer (key_of e) (kind_by (kind_of e.kind)) (set_of (kind_by (kind_of e.kind)) e) e.price.0
 
 -- what is known of an entry that passes
 record Passed (e : Entry) : Type 0 where
-  kind : kind_of e.kind ≡ Is (kind_by (kind_of e.kind))
+  kind : kind_of e.kind ≡ Some (kind_by (kind_of e.kind))
   sheet : Sheet
-  rated : rated_of (kind_by (kind_of e.kind)) (set_of (kind_by (kind_of e.kind)) e) ≡ Rating sheet
+  rated : rated_of (kind_by (kind_of e.kind)) (set_of (kind_by (kind_of e.kind)) e) ≡ Ok sheet
   price : priced e.price.0 ≡ true
   short : e.length ≤ 32
   shape : key_shape (key_of e) ≡ true
@@ -81,23 +76,23 @@ passed e ok = by_kind (kind_of e.kind) refl
     key : (leb e.length 32 ≡ true) × (key_shape (key_of e) ≡ true)
     key = both (leb e.length 32) (key_shape (key_of e)) inner.1
 
-    by-sheet : (k : Kind) → kind_of e.kind ≡ Is k → (d : Rated) → rated_of k (set_of k e) ≡ d → is_sheet d ≡ true → Passed e
-    by-sheet k q (Rating sheet) p t =
+    by-sheet : (k : Kind) → kind_of e.kind ≡ Some k → (d : Result Sheet Refusal) → rated_of k (set_of k e) ≡ d → is_sheet d ≡ true → Passed e
+    by-sheet k q (Ok sheet) p t =
         let s : kind_by (kind_of e.kind) ≡ k = ap kind_by q in
         record {
-          kind = q ∙ ap Is (sym s);
+          kind = q ∙ ap Some (sym s);
           sheet = sheet;
           rated = ap (λ (j : Kind). rated_of j (set_of j e)) s ∙ p;
           price = parts.0;
           short = leb-true e.length 32 key.0;
           shape = key.1;
         }
-    by-sheet k q (Refused refusal) p t = absurd (never t refl)
+    by-sheet k q (Err refusal) p t = absurd (never t refl)
 
-    by_kind : (n : Named) → kind_of e.kind ≡ n → Passed e
-    by_kind (Is k) q =
-        by-sheet k q (rated_of k (set_of k e)) refl (sym (ap (λ (n : Named). ratable n e) q) ∙ inner.0)
-    by_kind Unknown q = absurd (never inner.0 (ap (λ (n : Named). ratable n e) q))
+    by_kind : (n : Option Kind) → kind_of e.kind ≡ n → Passed e
+    by_kind (Some k) q =
+        by-sheet k q (rated_of k (set_of k e)) refl (sym (ap (λ (n : Option Kind). ratable n e) q) ∙ inner.0)
+    by_kind None q = absurd (never inner.0 (ap (λ (n : Option Kind). ratable n e) q))
 
 -- its entry says the same
 told_same : (e : Entry) → Passed e → length e.key ≡ 32 → SameEntry (entry_of (call_from e)) e
@@ -208,16 +203,16 @@ left-sound r l = sym (sound-same l.same) ∙ (left_grown l.calls).whole
 -- ---- 19, on the answers
 
 -- rating never refuses with 19, nor with 11
-rated-number : (k : Kind) (s : BandSet) (n : Refusal) → rated_of k s ≡ Refused n → number_of n ≤ 4
+rated-number : (k : Kind) (s : BandSet) (n : Refusal) → rated_of k s ≡ Err n → number_of n ≤ 4
 unfolding rated_of
 rated-number k s n e = by_length (eqb s.len (bands_of k)) refl
   where
     by-range : eqb s.len (bands_of k) ≡ true → (b : Bool) → accepted s (bands_of k) ≡ b → number_of n ≤ 4
     by-range p true q =
-        let c : Rating (sheet_of k s) ≡ Refused n = sym (λ i. asked (p i) (asked (q i) (Rating (sheet_of k s)) (Refused BandRange)) (Refused BandCount)) ∙ e in
+        let c : Ok (sheet_of k s) ≡ Err n = sym (λ i. asked (p i) (asked (q i) (Ok (sheet_of k s)) (Err BandRange)) (Err BandCount)) ∙ e in
         clash cc
     by-range p false q =
-        let c : Refused BandRange ≡ Refused n = sym (λ i. asked (p i) (asked (q i) (Rating (sheet_of k s)) (Refused BandRange)) (Refused BandCount)) ∙ e in
+        let c : Err BandRange ≡ Err n = sym (λ i. asked (p i) (asked (q i) (Ok (sheet_of k s)) (Err BandRange)) (Err BandCount)) ∙ e in
         let d : BandRange ≡ n = cc in
         let m : 4 ≡ number_of n = ap number_of d in
         omega arith
@@ -225,7 +220,7 @@ rated-number k s n e = by_length (eqb s.len (bands_of k)) refl
     by_length : (b : Bool) → eqb s.len (bands_of k) ≡ b → number_of n ≤ 4
     by_length true p = by-range p (accepted s (bands_of k)) refl
     by_length false p =
-        let c : Refused BandCount ≡ Refused n = sym (λ i. asked (p i) (asked (accepted s (bands_of k)) (Rating (sheet_of k s)) (Refused BandRange)) (Refused BandCount)) ∙ e in
+        let c : Err BandCount ≡ Err n = sym (λ i. asked (p i) (asked (accepted s (bands_of k)) (Ok (sheet_of k s)) (Err BandRange)) (Err BandCount)) ∙ e in
         let d : BandCount ≡ n = cc in
         let m : 1 ≡ number_of n = ap number_of d in
         omega arith
@@ -238,23 +233,23 @@ why-damaged n (dear s k q p) e = absurd (omega arith)
 why-damaged n (other t h k) e = absurd (omega arith)
 why-damaged n (crowded t k m) e = absurd (omega arith)
 
-damaged-bill : (r : Register) (x : Call) → billed_of r x ≡ billed.Refused RegisterDamaged → sound r ≡ false
+damaged-bill : (r : Register) (x : Call) → billed_of r x ≡ Err RegisterDamaged → sound r ≡ false
 damaged-bill r x e = go (seen r x)
   where
     go : Seen r x → sound r ≡ false
     go (turned n w d) =
-        let c : billed.Refused n ≡ billed.Refused RegisterDamaged = sym (billed-is r x d) ∙ e in
+        let c : Err n ≡ Err RegisterDamaged = sym (billed-is r x d) ∙ e in
         let q : n ≡ RegisterDamaged = cc in
         why-damaged n w (ap number_of q)
     go (retried sheet t h d) =
-        let c : billed.Charged sheet (record { 0 = 0 }) ≡ billed.Refused RegisterDamaged = sym (billed-is r x d) ∙ e in
+        let c : Ok sheet (record { 0 = 0 }) ≡ Err RegisterDamaged = sym (billed-is r x d) ∙ e in
         clash cc
     go (added sheet t k room d) =
-        let c : billed.Charged sheet (record { 0 = x.price }) ≡ billed.Refused RegisterDamaged = sym (billed-is r x d) ∙ e in
+        let c : Ok sheet (record { 0 = x.price }) ≡ Err RegisterDamaged = sym (billed-is r x d) ∙ e in
         clash cc
 
 -- 19 is given only to a register that no calls could have left so
-pub nineteen-right : (r : Register) (x : Call) → billed_of r x ≡ billed.Refused RegisterDamaged → CouldBeLeft r → ⊥
+pub nineteen-right : (r : Register) (x : Call) → billed_of r x ≡ Err RegisterDamaged → CouldBeLeft r → ⊥
 nineteen-right r x e l = never (left-sound r l) (damaged-bill r x e)
 
 -- and to every such register, whatever is asked
@@ -262,15 +257,15 @@ module _ (r : Register) (full : Full r) (none : CouldBeLeft r → ⊥) where
   broken : sound r ≡ false
   broken = refuted (sound r) (λ s. none (sound-left r s full))
 
-  pub nineteen-billed : (x : Call) → billed_of r x ≡ billed.Refused RegisterDamaged
+  pub nineteen-billed : (x : Call) → billed_of r x ≡ Err RegisterDamaged
   nineteen-billed x = billed-is r x (due-damaged r x broken)
 
-  pub nineteen-owed : (customer : ℕ) → owed_of r customer ≡ owed.Refused RegisterDamaged
+  pub nineteen-owed : (customer : ℕ) → owed_of r customer ≡ Err RegisterDamaged
   nineteen-owed customer = sym (owed-damaged r customer broken)
 
   pub nineteen-closed : (customer : ℕ) → closed_of r customer ≡ r
   nineteen-closed customer = closed-not r customer broken
 
 -- a total is given of every register that calls could have left
-pub total-given : (r : Register) (customer : ℕ) → CouldBeLeft r → owed_of r customer ≡ owed.Total (record { 0 = total_in r customer })
+pub total-given : (r : Register) (customer : ℕ) → CouldBeLeft r → owed_of r customer ≡ Ok (record { 0 = total_in r customer })
 total-given r customer l = sym (owed-total r customer (record { 0 = total_in r customer }) (left-sound r l) refl)

@@ -18,21 +18,18 @@ use Rattle.quantity.specs.declared.refusals.Refusal.TheVariants.{NotARequest, Pr
 use Rattle.laws.specs.Tests.{all_to, any_to, bit}
 use Rattle.laws.proofs.Ranges.{all_same, any_same}
 use Rattle.kinds.specs.declared.kinds.Kind.{Kind}
-use Rattle.kinds.specs.declared.kinds.Named.{Named}
-use Rattle.kinds.specs.declared.kinds.Named.TheVariants.{Is, Unknown}
 use Rattle.kinds.specs.Kinds.{bands_of, kind_of}
 use Rattle.rating.specs.declared.sheets.Sheet.{Sheet}
-use Rattle.rating.specs.declared.sheets.Rated.{Rated}
-use Rattle.rating.specs.declared.sheets.Rated.TheVariants as rating
 use Rattle.rating.specs.Sheets.{rated_of}
 use Rattle.rating.proofs.Theorems.{past-length}
 use Rattle.entry.specs.declared.entries.Entry.{Entry}
 use Rattle.register.specs.declared.registers.Register.{Register}
-use Rattle.register.specs.declared.totals.Owed.TheVariants as owed
 use Rattle.entry.specs.Entries.{value_of, set_of, bands_by, bands_in, marks_to, same_text, same_value, same_key, same_values, same_bands, is_sheet, ratable, entry_ok, Call, entry_of}
 use Rattle.register.specs.Registers.{entry_at, repeated, sound, known, held, price_for, total_in, owed_of, place_due, rated_due, due_of, billed_by, billed_of, Due}
 use Rattle.register.specs.Registers.Due.{refuse, repeat, enter}
 use Rattle.ledger.specs.Histories.{SameEntry, SameRegister}
+use Rattle.std.specs.Prelude.{Result, Ok, Err, Option, Some, None}
+use Rattle.quantity.specs.declared.refusals.Refusal.{Refusal}
 
 -- ---- the marks of the first n bands are the bits below n
 halves : (a b c d w : ℕ) → 0 < w → c ≡ d → a * w + c ≡ b * w + d → a ≡ b
@@ -82,7 +79,7 @@ module _ {e f : Entry} (s : SameEntry e f) where
   bands-same : bands_in e ≡ bands_in f
   bands-same = ap (λ (n : ℕ). bands_by (kind_of n)) s.kind
 
-  rated-same : (k : Kind) → kind_of e.kind ≡ Is k → rated_of k (set_of k e) ≡ rated_of k (set_of k f)
+  rated-same : (k : Kind) → kind_of e.kind ≡ Some k → rated_of k (set_of k e) ≡ rated_of k (set_of k f)
   rated-same k q =
       let n : bands_in e ≡ bands_of k = ap bands_by q in
       past-length k (set_of k e) (set_of k f) (record {
@@ -94,13 +91,13 @@ module _ {e f : Entry} (s : SameEntry e f) where
   ratable-same : ratable (kind_of e.kind) e ≡ ratable (kind_of f.kind) f
   ratable-same = go (kind_of e.kind) refl
     where
-      go : (n : Named) → kind_of e.kind ≡ n → ratable (kind_of e.kind) e ≡ ratable (kind_of f.kind) f
-      go (Is k) q =
-          ap (λ (n : Named). ratable n e) q
+      go : (n : Option Kind) → kind_of e.kind ≡ n → ratable (kind_of e.kind) e ≡ ratable (kind_of f.kind) f
+      go (Some k) q =
+          ap (λ (n : Option Kind). ratable n e) q
           ∙ ap is_sheet (rated-same k q)
-          ∙ sym (ap (λ (n : Named). ratable n f) (ap kind_of (sym s.kind) ∙ q))
-      go Unknown q =
-          ap (λ (n : Named). ratable n e) q ∙ sym (ap (λ (n : Named). ratable n f) (ap kind_of (sym s.kind) ∙ q))
+          ∙ sym (ap (λ (n : Option Kind). ratable n f) (ap kind_of (sym s.kind) ∙ q))
+      go None q =
+          ap (λ (n : Option Kind). ratable n e) q ∙ sym (ap (λ (n : Option Kind). ratable n f) (ap kind_of (sym s.kind) ∙ q))
 
   ok_same : entry_ok e ≡ entry_ok f
   unfolding entry_ok
@@ -182,9 +179,9 @@ module _ {r s : Register} (a : SameRegister r s) where
       cond (held_same e i) (repeat sheet)
       (cond (known_same e i) (refuse OtherBands) (cond (ltb (a.count i) 512) (enter sheet) (refuse RegisterFull)))
 
-  rated-due-same : (d : Rated) (x : Call) → rated_due d r x ≡ rated_due d s x
-  rated-due-same (rating.Refused refusal) x = refl
-  rated-due-same (rating.Rating sheet) x = λ i. cond (priced x.price) (place_same (entry_of x) sheet i) (refuse PriceRange)
+  rated-due-same : (d : Result Sheet Refusal) (x : Call) → rated_due d r x ≡ rated_due d s x
+  rated-due-same (Err refusal) x = refl
+  rated-due-same (Ok sheet) x = λ i. cond (priced x.price) (place_same (entry_of x) sheet i) (refuse PriceRange)
 
   pub due-same : (x : Call) → due_of r x ≡ due_of s x
   unfolding due_of
@@ -198,4 +195,4 @@ module _ {r s : Register} (a : SameRegister r s) where
 
   pub owed_same : (customer : ℕ) → owed_of r customer ≡ owed_of s customer
   unfolding owed_of
-  owed_same customer = λ i. cond (sound-same i) (owed.Total (record { 0 = total-same customer i })) (owed.Refused RegisterDamaged)
+  owed_same customer = λ i. cond (sound-same i) (Ok (record { 0 = total-same customer i })) (Err RegisterDamaged)

@@ -5,13 +5,14 @@ ghost use Rattle.register.specs.Registers.{owed_of};
 ghost use Rattle.ledger.specs.Closings.{without, closed_of};
 
 use entry::{Entry, no_entry};
-use register::{Owed, Register, owed_by};
+use quantity::{Fen, Refusal};
+use register::{Register, owed_by};
 
 // A register and what was handed out.
 #[derive(Clone, Copy)]
 pub struct Closing {
     pub register: Register,
-    pub owed: Owed,
+    pub owed: Result<Fen, Refusal>,
 }
 
 // An entry of another customer; zeros in place of one of this customer.
@@ -44,13 +45,11 @@ fn without(register: Register, customer: u64) -> Register
     let nothing = no_entry();
     let mut entries = register.entries;
     let mut free = 0;
-    let mut i = 0;
-    while i < count {
+    for i in 0..count {
         let e = register.entries[i];
         entries[i] = nothing;
         entries[free] = spared(e, customer);
         free += places_for(e, customer);
-        i += 1;
     }
     Register {
         entries,
@@ -64,13 +63,13 @@ pub fn close_for(register: Register, customer: u64) -> Closing
     ensures register_after { result.register ≡ closed_of register customer }
 {
     match owed_by(register, customer) {
-        Owed::Refused(refusal) => Closing {
+        Err(refusal) => Closing {
             register,
-            owed: Owed::Refused(refusal),
+            owed: Err(refusal),
         },
-        Owed::Total(total) => Closing {
+        Ok(total) => Closing {
             register: without(register, customer),
-            owed: Owed::Total(total),
+            owed: Ok(total),
         },
     }
 }

@@ -28,17 +28,14 @@ use Rattle.kinds.specs.declared.kinds.Numbers.{Numbers}
 use Rattle.kinds.specs.Kinds.{airborne, bands_of, limit_of}
 use Rattle.kinds.specs.Numbers.{entries_of, numbers_of, rating_at}
 use Rattle.kinds.proofs.Facts.{count-of, entries_fit}
-use Rattle.rating.specs.declared.sheets.SingleNumber.TheVariants.{Rating as Number, Refused as Denied}
-use Rattle.rating.specs.declared.sheets.Rated.{Rated}
-use Rattle.rating.specs.declared.sheets.Rated.TheVariants.{Rating, Refused as Unrated}
 use Rattle.rating.specs.Curve.{rating_of}
 use Rattle.rating.specs.Sheets.{asked, sheet_of, rated_of, single_of}
 use Rattle.sets.specs.Gains.{by_gains, Bounded, Gained}
-use Rattle.lift.specs.declared.lists.Lifted.{Lifted}
-use Rattle.lift.specs.declared.lists.Lifted.TheVariants.{Count, Refused}
 use Rattle.lift.specs.Reach.{better_by, lift_list}
 use Rattle.lift.specs.Calls.{in_targets, places_of, tested, count_of, answer_by, answer_of, RatedIs, LiftIs}
 use Rattle.lift.proofs.Listing.{can-count, position-small, above-limit, need-small, gains-small, list-is, list-room}
+use Rattle.std.specs.Prelude.{Result, Ok, Err}
+use Rattle.rating.specs.declared.sheets.Sheet.{Sheet}
 
 -- ---- the range of targets
 pub target-low : (t : ℤ) → lt_z t (negsuc 99) ≡ true → false ≡ in_targets t
@@ -62,20 +59,20 @@ module _ (k : Kind) (s : BandSet) (t r : ℤ) (before : List ℕ) where
   abbrev room : ℕ
   room = length before
 
-  pub out-of-targets : in_targets t ≡ false → RatedIs k s t r before (Refused TargetRange) before
+  pub out-of-targets : in_targets t ≡ false → RatedIs k s t r before (Err TargetRange) before
   unfolding count_of
   out-of-targets e = record { answer = rw e; buffer = refl }
 
-  pub not-better : in_targets t ≡ true → better_by (airborne k) t r ≡ false → RatedIs k s t r before (Refused TargetNotBetter) before
+  pub not-better : in_targets t ≡ true → better_by (airborne k) t r ≡ false → RatedIs k s t r before (Err TargetNotBetter) before
   unfolding count_of
   not-better e d = record { answer = rw (e, d); buffer = refl }
 
-  pub no_room : in_targets t ≡ true → better_by (airborne k) t r ≡ true → room < places_of k → RatedIs k s t r before (Refused OutputTooSmall) before
+  pub no_room : in_targets t ≡ true → better_by (airborne k) t r ≡ true → room < places_of k → RatedIs k s t r before (Err OutputTooSmall) before
   unfolding count_of
   no_room e d h = record { answer = rw (e, d, lt-leb (places_of k) room h); buffer = refl }
 
   pub all_listed : in_targets t ≡ true → better_by (airborne k) t r ≡ true → places_of k ≤ room → (n : ℕ) (after : List ℕ)
-      → n ≡ length (lift_list k x t) → after ≡ front (lift_list k x t) before → RatedIs k s t r before (Count n) after
+      → n ≡ length (lift_list k x t) → after ≡ front (lift_list k x t) before → RatedIs k s t r before (Ok n) after
   unfolding count_of
   all_listed e d h n after c f = record { answer = rw (e, d, le-leb (places_of k) room h, c); buffer = f }
 
@@ -84,35 +81,35 @@ module _ (k : Kind) (s : BandSet) (t r : ℤ) (before : List ℕ) where
 pub record Rates (k : Kind) (s : BandSet) (d : Decibels) : Type 0 where
   pub acc : accepted s (bands_of k) ≡ true
   pub rating : d.0 ≡ rating_of k (band_of s)
-  pub sheet : rated_of k s ≡ Rating (sheet_of k s)
+  pub sheet : rated_of k s ≡ Ok (sheet_of k s)
 
-pub alone-rates : (k : Kind) (s : BandSet) (d : Decibels) → Number d ≡ single_of (rated_of k s) → Rates k s d
+pub alone-rates : (k : Kind) (s : BandSet) (d : Decibels) → Ok d ≡ single_of (rated_of k s) → Rates k s d
 unfolding rated_of sheet_of
 alone-rates k s d e = go (eqb s.len (bands_of k)) refl (accepted s (bands_of k)) refl e
   where
     go : (a : Bool) → eqb s.len (bands_of k) ≡ a → (b : Bool) → accepted s (bands_of k) ≡ b
-        → Number d ≡ single_of (asked a (asked b (Rating (sheet_of k s)) (Unrated BandRange)) (Unrated BandCount)) → Rates k s d
+        → Ok d ≡ single_of (asked a (asked b (Ok (sheet_of k s)) (Err BandRange)) (Err BandCount)) → Rates k s d
     go true p true q e = record { acc = q; rating = cc; sheet = rw (p, q) }
     go true p false q e = record { acc = cc; rating = cc; sheet = cc }
     go false p b q e = record { acc = cc; rating = cc; sheet = cc }
 
-pub from-rated : (k : Kind) (s : BandSet) (t : ℤ) (d : Decibels) (before : List ℕ) (r : Lifted) (after : List ℕ)
+pub from-rated : (k : Kind) (s : BandSet) (t : ℤ) (d : Decibels) (before : List ℕ) (r : Result ℕ Refusal) (after : List ℕ)
     → Rates k s d → RatedIs k s t d.0 before r after → LiftIs k s t before r after
 unfolding answer_of sheet_of
 from-rated k s t d before r after e w = record {
   answer =
-      w.answer ∙ ap (count_of k s t (length before)) e.rating ∙ ap (λ (q : Rated). answer_by q k s t (length before)) (sym e.sheet);
+      w.answer ∙ ap (count_of k s t (length before)) e.rating ∙ ap (λ (q : Result Sheet Refusal). answer_by q k s t (length before)) (sym e.sheet);
   buffer = w.buffer;
 }
 
 pub from-refused : (k : Kind) (s : BandSet) (t : ℤ) (refusal : Refusal) (before : List ℕ)
-    → Denied refusal ≡ single_of (rated_of k s) → LiftIs k s t before (Refused refusal) before
+    → Err refusal ≡ single_of (rated_of k s) → LiftIs k s t before (Err refusal) before
 unfolding answer_of
 from-refused k s t refusal before e = record { answer = go (rated_of k s) e; buffer = refl }
   where
-    go : (q : Rated) → Denied refusal ≡ single_of q → Refused refusal ≡ answer_by q k s t (length before)
-    go (Rating sheet) e = cc
-    go (Unrated r) e = cc
+    go : (q : Result Sheet Refusal) → Err refusal ≡ single_of q → Err refusal ≡ answer_by q k s t (length before)
+    go (Ok sheet) e = cc
+    go (Err r) e = cc
 
 -- ---- the numbers fetched for the kind
 pub sign-is : (k : Kind) (n : Numbers) → n ≡ numbers_of k → n.airborne ≡ airborne k
@@ -176,11 +173,11 @@ places-small A1 = omega arith
 places-small I3 = omega arith
 places-small I1 = omega arith
 
-pub count_small : (k : Kind) (s : BandSet) (t : ℤ) (room n : ℕ) → answer_of k s t room ≡ Count n → n ≤ 696
+pub count_small : (k : Kind) (s : BandSet) (t : ℤ) (room n : ℕ) → answer_of k s t room ≡ Ok n → n ≤ 696
 unfolding answer_of count_of
 count_small k s t room n e = by (rated_of k s) e
   where
-    tests : (a b x : Bool) → tested a (tested b (tested x (Count (length (lift_list k (band_of s) t))) (Refused OutputTooSmall)) (Refused TargetNotBetter)) (Refused TargetRange) ≡ Count n
+    tests : (a b x : Bool) → tested a (tested b (tested x (Ok (length (lift_list k (band_of s) t))) (Err OutputTooSmall)) (Err TargetNotBetter)) (Err TargetRange) ≡ Ok n
         → n ≤ 696
     tests false b x h = clash cc
     tests true false x h = clash cc
@@ -189,6 +186,6 @@ count_small k s t room n e = by (rated_of k s) e
         let q : n ≡ length (lift_list k (band_of s) t) = cc in
         omega (arith, list-room k (band_of s) t 696 (places-small k))
 
-    by : (r : Rated) → answer_by r k s t room ≡ Count n → n ≤ 696
-    by (Unrated q) h = clash cc
-    by (Rating sheet) h = tests (in_targets t) (better_by (airborne k) t sheet.rating.0) (leb (places_of k) room) h
+    by : (r : Result Sheet Refusal) → answer_by r k s t room ≡ Ok n → n ≤ 696
+    by (Err q) h = clash cc
+    by (Ok sheet) h = tests (in_targets t) (better_by (airborne k) t sheet.rating.0) (leb (places_of k) room) h

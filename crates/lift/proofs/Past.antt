@@ -14,18 +14,17 @@ use Rattle.curve.specs.Bands.{accepted}
 use Rattle.laws.specs.Tests.{all_to, bit}
 use Rattle.kinds.specs.declared.kinds.Kind.{Kind}
 use Rattle.kinds.specs.Kinds.{airborne, bands_of}
-use Rattle.rating.specs.declared.sheets.Rated.{Rated}
-use Rattle.rating.specs.declared.sheets.Rated.TheVariants.{Rating, Refused as Unrated}
 use Rattle.rating.specs.Curve.{rating_of}
 use Rattle.rating.specs.Sheets.{sheet_of, rated_of, asked}
 use Rattle.rating.proofs.Theorems.{accepted-same, rating-same, Stated, past_by}
 use Rattle.rating.proofs.RatedLaws.{wrong-count}
 use Rattle.sets.specs.Masks.{smaller, masks_in_order, filter}
 use Rattle.sets.specs.Highest.{highest}
-use Rattle.lift.specs.declared.lists.Lifted.{Lifted}
-use Rattle.lift.specs.declared.lists.Lifted.TheVariants.{Count, Refused}
 use Rattle.lift.specs.Reach.{better_by, meets_by, lifted, reaches, listed_mask, lift_list}
 use Rattle.lift.specs.Calls.{in_targets, places_of, tested, count_of, answer_by, answer_of, buffer_by}
+use Rattle.std.specs.Prelude.{Result, Ok, Err}
+use Rattle.quantity.specs.declared.refusals.Refusal.{Refusal}
+use Rattle.rating.specs.declared.sheets.Sheet.{Sheet}
 
 module _ (k : Kind) (x y : ℕ → ℤ) (t : ℤ) (same : (i : ℕ) → i < bands_of k → x i ≡ y i) where
   lifted-same : (m i : ℕ) → i < bands_of k → lifted k x m i ≡ lifted k y m i
@@ -51,11 +50,11 @@ module _ (k : Kind) (s t : BandSet) (target : ℤ) (room : ℕ) (len : s.len ≡
       let r = rating-same k (band_of s) (band_of t) values in
       let l = list-past k (band_of s) (band_of t) target values in
       λ i. tested (in_targets target)
-      (tested (better_by (airborne k) target (r i)) (tested (leb (places_of k) room) (Count (length (l i))) (Refused OutputTooSmall)) (Refused TargetNotBetter))
-      (Refused TargetRange)
+      (tested (better_by (airborne k) target (r i)) (tested (leb (places_of k) room) (Ok (length (l i))) (Err OutputTooSmall)) (Err TargetNotBetter))
+      (Err TargetRange)
 
-  abbrev answer : BandSet → Bool → Bool → Lifted
-  answer u a b = answer_by (asked a (asked b (Rating (sheet_of k u)) (Unrated BandRange)) (Unrated BandCount)) k u target room
+  abbrev answer : BandSet → Bool → Bool → Result ℕ Refusal
+  answer u a b = answer_by (asked a (asked b (Ok (sheet_of k u)) (Err BandRange)) (Err BandCount)) k u target room
 
   answer-same : (a b : Bool) → answer s a b ≡ answer t a b
   unfolding sheet_of
@@ -72,16 +71,16 @@ module _ (k : Kind) (s t : BandSet) (target : ℤ) (room : ℕ) (len : s.len ≡
 
 -- the answer of the call, and its buffer
 module _ (k : Kind) (target : ℤ) (room : ℕ) where
-  other : (s : BandSet) → (s.len ≡ bands_of k → ⊥) → answer_of k s target room ≡ Refused BandCount
+  other : (s : BandSet) → (s.len ≡ bands_of k → ⊥) → answer_of k s target room ≡ Err BandCount
   unfolding answer_of
-  other s f = ap (λ (r : Rated). answer_by r k s target room) (sym (wrong-count k s (bands_of k) refl f))
+  other s f = ap (λ (r : Result Sheet Refusal). answer_by r k s target room) (sym (wrong-count k s (bands_of k) refl f))
 
   pub answer-past : (s t : BandSet) → Stated s t → answer_of k s target room ≡ answer_of k t target room
-  answer-past = past_by (λ s. answer_of k s target room) (bands_of k) (Refused BandCount) other
+  answer-past = past_by (λ s. answer_of k s target room) (bands_of k) (Err BandCount) other
       (λ s t len values marks. answer-agreed k s t target room len values)
 
   pub buffer-past : (lent : List ℕ) (s t : BandSet) → Stated s t
       → buffer_by (answer_of k s target room) (lift_list k (band_of s) target) lent ≡ buffer_by (answer_of k t target room) (lift_list k (band_of t) target) lent
   buffer-past lent = past_by (λ s. buffer_by (answer_of k s target room) (lift_list k (band_of s) target) lent) (bands_of k) lent
-      (λ s f. ap (λ (r : Lifted). buffer_by r (lift_list k (band_of s) target) lent) (other s f))
+      (λ s f. ap (λ (r : Result ℕ Refusal). buffer_by r (lift_list k (band_of s) target) lent) (other s f))
       (λ s t len values marks i. buffer_by (answer-agreed k s t target room len values i) (list-past k (band_of s) (band_of t) target values i) lent)

@@ -16,8 +16,6 @@ use Rattle.quantity.specs.declared.refusals.Refusal.TheVariants.{TargetNotBetter
 use Rattle.laws.specs.Tests.{all_to}
 use Rattle.kinds.specs.declared.kinds.Kind.{Kind}
 use Rattle.kinds.specs.Kinds.{airborne, bands_of}
-use Rattle.rating.specs.declared.sheets.Rated.{Rated}
-use Rattle.rating.specs.declared.sheets.Rated.TheVariants.{Rating, Refused as Unrated}
 use Rattle.rating.specs.Sheets.{rated_of}
 use Rattle.sets.specs.Masks.{is_mask, smaller, before, masks_in_order}
 use Rattle.laws.proofs.Tests.{and_left, and_right, and_both}
@@ -25,10 +23,11 @@ use Rattle.laws.proofs.Ranges.{all_read, all_hold}
 use Rattle.sets.proofs.Filters.{Kept, filter-read, filter-made, each_of, rising-filter, in_order}
 use Rattle.sets.proofs.Order.{before-chain, before-other}
 use Rattle.sets.proofs.Enumeration.{all-sets, sets-rise, every_set}
-use Rattle.lift.specs.declared.lists.Lifted.{Lifted}
-use Rattle.lift.specs.declared.lists.Lifted.TheVariants.{Count, Refused}
 use Rattle.lift.specs.Reach.{better_by, reaches, listed_mask, lift_list, Listed}
 use Rattle.lift.specs.Calls.{in_targets, places_of, tested, count_of, answer_by, answer_of, buffer_by, LiftIs}
+use Rattle.std.specs.Prelude.{Result, Ok, Err}
+use Rattle.quantity.specs.declared.refusals.Refusal.{Refusal}
+use Rattle.rating.specs.declared.sheets.Sheet.{Sheet}
 
 module _ (k : Kind) (x : ℕ → ℤ) (t : ℤ) where
   abbrev fails : ℕ → ℕ → Bool
@@ -81,41 +80,41 @@ module _ (k : Kind) (x : ℕ → ℤ) (t : ℤ) where
 
 -- ---- what the call leaves
 -- how many places an answer takes
-abbrev pub taken : Lifted → ℕ
-taken (Count n) = n
-taken (Refused r) = 0
+abbrev pub taken : Result ℕ Refusal → ℕ
+taken (Ok n) = n
+taken (Err r) = 0
 
 module _ (k : Kind) (s : BandSet) (t : ℤ) (lent : List ℕ) where
   abbrev list : List ℕ
   list = lift_list k (band_of s) t
 
   counted : (a b c : Bool) (n : ℕ)
-      → Count n ≡ tested a (tested b (tested c (Count (length list)) (Refused OutputTooSmall)) (Refused TargetNotBetter)) (Refused TargetRange) → n ≡ length list
+      → Ok n ≡ tested a (tested b (tested c (Ok (length list)) (Err OutputTooSmall)) (Err TargetNotBetter)) (Err TargetRange) → n ≡ length list
   counted true true true n e = cc
   counted true true false n e = cc
   counted true false c n e = cc
   counted false b c n e = cc
 
   -- the count is that of the list
-  pub count-right : (n : ℕ) (after : List ℕ) → LiftIs k s t lent (Count n) after → n ≡ length list
+  pub count-right : (n : ℕ) (after : List ℕ) → LiftIs k s t lent (Ok n) after → n ≡ length list
   unfolding answer_of count_of
   count-right n after w = go (rated_of k s) w.answer
     where
-      go : (q : Rated) → Count n ≡ answer_by q k s t (length lent) → n ≡ length list
-      go (Rating sheet) e =
+      go : (q : Result Sheet Refusal) → Ok n ≡ answer_by q k s t (length lent) → n ≡ length list
+      go (Ok sheet) e =
           counted (in_targets t) (better_by (airborne k) t sheet.rating.0) (leb (places_of k) (length lent)) n e
-      go (Unrated r) e = cc
+      go (Err r) e = cc
 
   -- the list stands from place 0 on
-  pub list_written : (n : ℕ) (after : List ℕ) → LiftIs k s t lent (Count n) after → (i : ℕ) → i < n → get_or after i 0 ≡ get_or list i 0
+  pub list_written : (n : ℕ) (after : List ℕ) → LiftIs k s t lent (Ok n) after → (i : ℕ) → i < n → get_or after i 0 ≡ get_or list i 0
   list_written n after w i h =
       ap (λ (l : List ℕ). get_or l i 0) w.buffer
       ∙ get_or-append list (drop (length list) lent) 0 i (omega (arith, count-right n after w))
 
   -- every other place is as it was: after the count, and on a refusal all of them
-  pub rest-kept : (r : Lifted) (after : List ℕ) → LiftIs k s t lent r after → (i : ℕ) → taken r ≤ i → get_or after i 0 ≡ get_or lent i 0
-  rest-kept (Refused r) after w i h = ap (λ (l : List ℕ). get_or l i 0) w.buffer
-  rest-kept (Count n) after w i h =
+  pub rest-kept : (r : Result ℕ Refusal) (after : List ℕ) → LiftIs k s t lent r after → (i : ℕ) → taken r ≤ i → get_or after i 0 ≡ get_or lent i 0
+  rest-kept (Err r) after w i h = ap (λ (l : List ℕ). get_or l i 0) w.buffer
+  rest-kept (Ok n) after w i h =
       let c : n ≡ length list = count-right n after w in
       let e : length list + (i - length list) ≡ i = omega arith in
       ap (λ (l : List ℕ). get_or l i 0) w.buffer
@@ -123,7 +122,7 @@ module _ (k : Kind) (s : BandSet) (t : ℤ) (lent : List ℕ) where
       (get_or-append-add list (drop (length list) lent) (i - length list) 0 ∙ get_or-drop (length list) lent (i - length list) 0)
 
   -- two outcomes that the promise allows are one
-  pub one-outcome : (r q : Lifted) (after last : List ℕ) → LiftIs k s t lent r after → LiftIs k s t lent q last → (r ≡ q) × (after ≡ last)
+  pub one-outcome : (r q : Result ℕ Refusal) (after last : List ℕ) → LiftIs k s t lent r after → LiftIs k s t lent q last → (r ≡ q) × (after ≡ last)
   one-outcome r q after last v w =
       let e : r ≡ q = v.answer ∙ sym w.answer in
-      (e, v.buffer ∙ ap (λ (a : Lifted). buffer_by a list lent) e ∙ sym w.buffer)
+      (e, v.buffer ∙ ap (λ (a : Result ℕ Refusal). buffer_by a list lent) e ∙ sym w.buffer)

@@ -1,6 +1,6 @@
 -- The lift call: its answer, and the lent buffer afterwards. Document 01, "The lift list" and "Refusal numbers" (first those of
 -- the rating, "then 9, 8, 10").
-use Rattle.std.specs.Prelude.{Bool, true, false, ◌&&◌, List, [], ◌∷◌, ◌≡◌, ℕ, leb, ℤ, pos, negsuc, length}
+use Rattle.std.specs.Prelude.{Bool, ◌&&◌, List, [], ◌∷◌, ◌≡◌, ℕ, leb, ℤ, pos, negsuc, length, Result, Ok, Err}
 use Rattle.std.specs.Int.Signed.{le_z}
 use Rattle.laws.specs.Lists.{front}
 use Rattle.quantity.specs.Quantities.{band_of}
@@ -8,15 +8,13 @@ use Rattle.quantity.specs.Refusals.{number_of}
 use Rattle.quantity.specs.Answers.{Answer}
 use Rattle.quantity.specs.Answers.Answer.{refused, numbers}
 use Rattle.quantity.specs.declared.quantities.BandSet.{BandSet}
+use Rattle.quantity.specs.declared.refusals.Refusal.{Refusal}
 use Rattle.quantity.specs.declared.refusals.Refusal.TheVariants.{TargetNotBetter, TargetRange, OutputTooSmall}
 use Rattle.kinds.specs.declared.kinds.Kind.{Kind}
 use Rattle.kinds.specs.declared.kinds.Kind.TheVariants.{A3, A1, I3, I1}
 use Rattle.kinds.specs.Kinds.{airborne}
-use Rattle.rating.specs.declared.sheets.Rated.{Rated}
-use Rattle.rating.specs.declared.sheets.Rated.TheVariants.{Rating, Refused as Unrated}
-use Rattle.rating.specs.Sheets.{rated_of}
-use Rattle.lift.specs.declared.lists.Lifted.{Lifted}
-use Rattle.lift.specs.declared.lists.Lifted.TheVariants.{Count, Refused}
+use Rattle.rating.specs.declared.sheets.Sheet.{Sheet}
+use Rattle.rating.specs.Sheets.{asked, rated_of}
 use Rattle.lift.specs.Reach.{better_by, lift_list}
 
 -- "target outside -100..200"
@@ -30,44 +28,39 @@ places_of A1 = 25
 places_of I3 = 696
 places_of I1 = 25
 
--- a refusal where a test fails
-abbrev pub tested : Bool → Lifted → Lifted → Lifted
-tested true a b = a
-tested false a b = b
-
 -- "then 9, 8, 10", of a set that rates so
-unfoldable pub count_of : Kind → BandSet → ℤ → ℕ → ℤ → Lifted
+unfoldable pub count_of : Kind → BandSet → ℤ → ℕ → ℤ → Result ℕ Refusal
 count_of k s target room rating =
-    tested (in_targets target)
-    (tested (better_by (airborne k) target rating)
-    (tested (leb (places_of k) room) (Count (length (lift_list k (band_of s) target))) (Refused OutputTooSmall))
-    (Refused TargetNotBetter))
-    (Refused TargetRange)
+    asked (in_targets target)
+    (asked (better_by (airborne k) target rating)
+    (asked (leb (places_of k) room) (Ok (length (lift_list k (band_of s) target))) OutputTooSmall)
+    TargetNotBetter)
+    TargetRange
 
-abbrev pub answer_by : Rated → Kind → BandSet → ℤ → ℕ → Lifted
-answer_by (Unrated r) k s target room = Refused r
-answer_by (Rating sheet) k s target room = count_of k s target room sheet.rating.0
+abbrev pub answer_by : Result Sheet Refusal → Kind → BandSet → ℤ → ℕ → Result ℕ Refusal
+answer_by (Err r) k s target room = Err r
+answer_by (Ok sheet) k s target room = count_of k s target room sheet.rating.0
 
 -- the answer, with so many places lent
-unfoldable pub answer_of : Kind → BandSet → ℤ → ℕ → Lifted
+unfoldable pub answer_of : Kind → BandSet → ℤ → ℕ → Result ℕ Refusal
 answer_of k s target room = answer_by (rated_of k s) k s target room
 
 -- "places after the count keep their contents"; "A refusal .. changes no lent buffer"
-abbrev pub buffer_by : Lifted → List ℕ → List ℕ → List ℕ
-buffer_by (Count n) list buffer = front list buffer
-buffer_by (Refused r) list buffer = buffer
+abbrev pub buffer_by : Result ℕ Refusal → List ℕ → List ℕ → List ℕ
+buffer_by (Ok n) list buffer = front list buffer
+buffer_by (Err r) list buffer = buffer
 
 -- of a set that rates so: the answer, and the buffer
-pub record RatedIs (k : Kind) (s : BandSet) (target rating : ℤ) (before : List ℕ) (r : Lifted) (after : List ℕ) : Type 0 where
+pub record RatedIs (k : Kind) (s : BandSet) (target rating : ℤ) (before : List ℕ) (r : Result ℕ Refusal) (after : List ℕ) : Type 0 where
   pub answer : r ≡ count_of k s target (length before) rating
   pub buffer : after ≡ buffer_by r (lift_list k (band_of s) target) before
 
 -- the whole promise of the call
-pub record LiftIs (k : Kind) (s : BandSet) (target : ℤ) (before : List ℕ) (r : Lifted) (after : List ℕ) : Type 0 where
+pub record LiftIs (k : Kind) (s : BandSet) (target : ℤ) (before : List ℕ) (r : Result ℕ Refusal) (after : List ℕ) : Type 0 where
   pub answer : r ≡ answer_of k s target (length before)
   pub buffer : after ≡ buffer_by r (lift_list k (band_of s) target) before
 
 -- in the paper's numbers: the count, or the refusal
-abbrev pub count_answer : Lifted → Answer ℤ
-count_answer (Count n) = numbers (pos n ∷ [])
-count_answer (Refused r) = refused (number_of r)
+abbrev pub count_answer : Result ℕ Refusal → Answer ℤ
+count_answer (Ok n) = numbers (pos n ∷ [])
+count_answer (Err r) = refused (number_of r)

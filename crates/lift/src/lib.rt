@@ -7,4 +7,4 @@
 
 mod lists;
 
-pub use lists::{Lifted, lift};
+pub use lists::lift;

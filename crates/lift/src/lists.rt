@@ -8,31 +8,17 @@ ghost use Rattle.laws.specs.Lists.{front};
 ghost use Rattle.lift.specs.Reach.{better_by, lift_list};
 ghost use Rattle.lift.specs.Calls.{in_targets, places_of, RatedIs, LiftIs};
 
-use kinds::{A1Kind, A3Kind, I1Kind, I3Kind, Kind, numbers_of};
+use kinds::{Kind, numbers_of, sets_of};
 use listing::fill;
 use quantity::{BandSet, Decibels, Refusal};
-use rating::{SingleNumber, rate_alone};
+use rating::rate_alone;
 use sets::{gains_at, position_at};
-
-// How many sets are listed, or why none can be.
-#[derive(Clone, Copy)]
-pub enum Lifted {
-    Count(usize),
-    Refused(Refusal),
-}
 
 // Whether a target lies in -100..200.
 fn in_targets(target: Decibels) -> bool
     ensures { result ≡ in_targets target.0 }
 {
-    let t = target.0;
-    if t < -100 {
-        return false;
-    }
-    if 200 < t {
-        return false;
-    }
-    true
+    -100 <= target.0 && target.0 <= 200
 }
 
 // Whether a target is better than a rating.
@@ -50,12 +36,7 @@ fn better(airborne: bool, target: Decibels, rating: Decibels) -> bool
 fn places(kind: Kind) -> usize
     ensures { result ≡ places_of kind }
 {
-    match kind {
-        Kind::A3 => A3Kind::SETS,
-        Kind::A1 => A1Kind::SETS,
-        Kind::I3 => I3Kind::SETS,
-        Kind::I1 => I1Kind::SETS,
-    }
+    sets_of(kind)
 }
 
 // Lists an accepted set, at a target that is better than its rating.
@@ -84,31 +65,29 @@ fn lift_rated(
     target: Decibels,
     rating: Decibels,
     out: &mut [u16],
-) -> Lifted
+) -> Result<usize, Refusal>
     requires set_accepted { accepted set (bands_of kind) ≡ true }
     requires rated { rating.0 ≡ rating_of kind (band_of set) }
     ensures { RatedIs kind set target.0 rating.0 out.old result out.new }
 {
     if !in_targets(target) {
-        return Lifted::Refused(Refusal::TargetRange);
+        return Err(Refusal::TargetRange);
     }
     let n = numbers_of(kind);
     if !better(n.airborne, target, rating) {
-        return Lifted::Refused(Refusal::TargetNotBetter);
+        return Err(Refusal::TargetNotBetter);
     }
     if out.len() < places(kind) {
-        return Lifted::Refused(Refusal::OutputTooSmall);
+        return Err(Refusal::OutputTooSmall);
     }
-    Lifted::Count(list(kind, set, target, out))
+    Ok(list(kind, set, target, out))
 }
 
 // Lists the least sets of one to three bands that reach the target: their count, with the sets from place 0 of `out` on and
 // the places after them as they were; or a refusal, with all of `out` as it was.
-pub fn lift(kind: Kind, set: BandSet, target: Decibels, out: &mut [u16]) -> Lifted
+pub fn lift(kind: Kind, set: BandSet, target: Decibels, out: &mut [u16]) -> Result<usize, Refusal>
     ensures { LiftIs kind set target.0 out.old result out.new }
 {
-    match rate_alone(kind, set) {
-        SingleNumber::Rating(rating) => lift_rated(kind, set, target, rating, out),
-        SingleNumber::Refused(refusal) => Lifted::Refused(refusal),
-    }
+    let rating = rate_alone(kind, set)?;
+    lift_rated(kind, set, target, rating, out)
 }

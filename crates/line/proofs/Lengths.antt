@@ -13,15 +13,9 @@ use Rattle.quantity.specs.Refusals.{number_of}
 use Rattle.quantity.specs.declared.quantities.BandSet.{BandSet}
 use Rattle.quantity.specs.declared.refusals.Refusal.{Refusal}
 use Rattle.quantity.specs.declared.refusals.Refusal.TheVariants.{BandCount, BandRange}
-use Rattle.quantity.specs.declared.refusals.Outcome.{Outcome}
-use Rattle.quantity.specs.declared.refusals.Outcome.TheVariants as outcome
 use Rattle.kinds.specs.declared.kinds.Kind.{Kind}
 use Rattle.kinds.specs.Kinds.{bands_of}
 use Rattle.rating.specs.declared.sheets.Sheet.{Sheet}
-use Rattle.rating.specs.declared.sheets.Term.{Term}
-use Rattle.rating.specs.declared.sheets.Term.TheVariants.{Given, Absent}
-use Rattle.rating.specs.declared.sheets.Rated.{Rated}
-use Rattle.rating.specs.declared.sheets.Rated.TheVariants.{Rating, Refused}
 use Rattle.curve.specs.Bands.{accepted}
 use Rattle.rating.specs.Sheets.{asked, sheet_of, rated_of, term_of}
 use Rattle.rating.specs.Bounds.{Small, SmallSheet}
@@ -35,6 +29,8 @@ use Rattle.request.specs.Reading.Request.{none, request}
 use Rattle.request.specs.Gathering.{first_fault}
 use Rattle.request.proofs.Wholes.{text_of, kind-two}
 use Rattle.reply.specs.Answers.{set_of, judged_by, judged, answer_to, answer_of}
+use Rattle.std.specs.Prelude.{Result, Ok, Err, Option, Some, None}
+use Rattle.quantity.specs.declared.quantities.Decibels.{Decibels}
 
 -- a number of k digits, with its minus
 number-most : (k : ℕ) (z : ℤ) → P z < 10 ^ suc k → N z < 10 ^ suc k → length (number_text z) ≤ suc (suc k)
@@ -42,16 +38,16 @@ unfolding number_text
 number-most k (pos n) p q = omega (arith, digits-most k n p)
 number-most k (negsuc n) p q = omega (arith, digits-most k (suc n) q)
 
-term-most : (t : Term) → Small (term_of t) → length (term_text t) ≤ 6
+term-most : (t : Option Decibels) → Small (term_of t) → length (term_text t) ≤ 6
 unfolding term_text
-term-most (Given d) h = number-most 4 d.0 (omega (arith, h.0)) (omega (arith, h.1))
-term-most Absent h = omega arith
+term-most (Some d) h = number-most 4 d.0 (omega (arith, h.0)) (omega (arith, h.1))
+term-most None h = omega arith
 
 -- what follows the key
-refused-most : (r : Refusal) → length (others (fields_of (Refused r))) ≤ 29
+refused-most : (r : Refusal) → length (others (fields_of (Err r))) ≤ 29
 refused-most r = omega (arith, refused-length (number_of r), digits-most 1 (number_of r) (number_small r))
 
-sheet-most : (k : Kind) (s : BandSet) → accepted s (bands_of k) ≡ true → length (others (fields_of (Rating (sheet_of k s)))) ≤ 29
+sheet-most : (k : Kind) (s : BandSet) → accepted s (bands_of k) ≡ true → length (others (fields_of (Ok (sheet_of k s)))) ≤ 29
 unfolding sheet_of
 sheet-most k s acc =
     let sheet : Sheet = sheet_of k s in
@@ -71,7 +67,7 @@ unfolding rated_of
 rated-most k s = go (eqb s.len (bands_of k)) (accepted s (bands_of k)) refl
   where
     go : (a b : Bool) → accepted s (bands_of k) ≡ b
-        → length (others (fields_of (asked a (asked b (Rating (sheet_of k s)) (Refused BandRange)) (Refused BandCount)))) ≤ 29
+        → length (others (fields_of (asked a (asked b (Ok (sheet_of k s)) (Err BandRange)) (Err BandCount)))) ≤ 29
     go true true e = sheet-most k s e
     go true false e = refused-most BandRange
     go false b e = refused-most BandCount
@@ -80,11 +76,11 @@ judged-most : (k : Kind) (bands : List Band) → length (others (fields_of (judg
 unfolding judged
 judged-most k bands = go (eqb (length bands) (bands_of k))
   where
-    by : (o : Outcome) (r : Rated) → length (others (fields_of r)) ≤ 29 → length (others (fields_of (judged_by o r))) ≤ 29
-    by outcome.Accepted r h = h
-    by (outcome.Refused q) r h = refused-most q
+    by : (o : Option Refusal) (r : Result Sheet Refusal) → length (others (fields_of r)) ≤ 29 → length (others (fields_of (judged_by o r))) ≤ 29
+    by None r h = h
+    by (Some q) r h = refused-most q
 
-    go : (t : Bool) → length (others (fields_of (elim t [ true ↦ judged_by (first_fault bands) (rated_of k (set_of bands)) | false ↦ Refused BandCount ]))) ≤ 29
+    go : (t : Bool) → length (others (fields_of (elim t [ true ↦ judged_by (first_fault bands) (rated_of k (set_of bands)) | false ↦ Err BandCount ]))) ≤ 29
     go true = by (first_fault bands) (rated_of k (set_of bands)) (rated-most k (set_of bands))
     go false = refused-most BandCount
 

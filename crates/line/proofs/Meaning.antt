@@ -10,10 +10,6 @@ use lib.Dec.{leb}
 use lib.ListN.{length, take, drop, length-drop, take-append-drop}
 use lib.Seq.{drop-drop, length-take-le, drop-length}
 use Rattle.kinds.specs.declared.kinds.Kind.{Kind}
-use Rattle.rating.specs.declared.sheets.Rated.{Rated}
-use Rattle.rating.specs.declared.sheets.Rated.TheVariants.{Rating, Refused}
-use Rattle.rating.specs.declared.sheets.Term.{Term}
-use Rattle.rating.specs.declared.sheets.Term.TheVariants.{Given, Absent}
 use Rattle.quantity.specs.Refusals.{number_of}
 use Rattle.reply.specs.declared.requests.Reply.{Reply}
 use Rattle.line.specs.declared.blocks.Piece.{Piece}
@@ -34,6 +30,10 @@ use Rattle.line.proofs.Turns.{feed-most, piece_of, Found, found, Came, came}
 use Rattle.line.proofs.Runs.{by-turns}
 use Rattle.line.proofs.Feeds.{feeds, feeds-join, decimal-feeds, kind-feeds, key-feeds, minus-feeds, Plain, line-feeds, feed-before, feed-behind, request-end, lines-first, lines-last, lines-begun, after_none, after_first, rest_by}
 use Rattle.laws.proofs.Tests.{clash}
+use Rattle.std.specs.Prelude.{Result, Ok, Err, Option, Some, None}
+use Rattle.quantity.specs.declared.quantities.Decibels.{Decibels}
+use Rattle.quantity.specs.declared.refusals.Refusal.{Refusal}
+use Rattle.rating.specs.declared.sheets.Sheet.{Sheet}
 
 -- ---- a line that is no request, and one that is
 -- a request ends at its first line feed and is short
@@ -293,22 +293,22 @@ unfolding number_text
 number-feeds (lib.IntN.pos n) = decimal-feeds n
 number-feeds (lib.IntN.negsuc n) = minus-feeds (decimal (suc n)) (decimal-feeds (suc n))
 
-term-feeds : (t : Term) → feeds (term_text t) ≡ 0
+term-feeds : (t : Option Decibels) → feeds (term_text t) ≡ 0
 unfolding term_text feeds
-term-feeds (Given d) = number-feeds d.0
-term-feeds Absent = refl
+term-feeds (Some d) = number-feeds d.0
+term-feeds None = refl
 
 mark-feeds : (t : Bool) → feeds (set_text t) ≡ 0
 unfolding feeds
 mark-feeds true = refl
 mark-feeds false = refl
 
-fields-plain : (r : Rated) → Plain (fields_of r)
+fields-plain : (r : Result Sheet Refusal) → Plain (fields_of r)
 unfolding feeds
-fields-plain (Rating s) =
+fields-plain (Ok s) =
     Plain.more refl (Plain.more (number-feeds s.rating.0) (Plain.more (number-feeds s.first.0) (Plain.more (term-feeds s.second)
     (Plain.more (decimal-feeds s.shifts) (Plain.more (mark-feeds s.limit) Plain.none)))))
-fields-plain (Refused r) = Plain.more (decimal-feeds (number_of r)) Plain.none
+fields-plain (Err r) = Plain.more (decimal-feeds (number_of r)) Plain.none
 
 none-feeds : feeds no_request_text ≡ 1
 unfolding no_request_text line_text others decimal Rattle.answer.specs.Texts.decimal_by feeds

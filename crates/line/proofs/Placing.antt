@@ -13,7 +13,6 @@ use lib.Seq.{take_all, drop-drop}
 use Rattle.quantity.specs.declared.refusals.Refusal.TheVariants.{OutputTooSmall}
 use Rattle.kinds.specs.declared.kinds.Kind.{Kind}
 use Rattle.reply.specs.declared.requests.Reply.{Reply}
-use Rattle.line.specs.declared.lines.Wrote.TheVariants as wrote
 use Rattle.request.specs.Texts.{Band}
 use Rattle.answer.specs.Texts.{rated_text, no_request_text}
 use Rattle.laws.specs.Lists.{front}
@@ -24,20 +23,21 @@ use Rattle.reply.specs.Answers.{judged, answer_to, answer_of, no_reply, reply_to
 use Rattle.line.specs.Answers.{fits_at, placed, wrote_of}
 use Rattle.request.proofs.Wholes.{RequestAt, RequestGood, request-ok, text-length}
 use Rattle.reply.proofs.Replies.{reply-none}
+use Rattle.std.specs.Prelude.{Ok, Err}
 
 module _ (out : List ℕ) (at : ℕ) (text : List ℕ) where
-  pub no_room : length out < at + length text → (wrote.Refused OutputTooSmall ≡ wrote_of out at text) × (out ≡ placed out at text)
+  pub no_room : length out < at + length text → (Err OutputTooSmall ≡ wrote_of out at text) × (out ≡ placed out at text)
   unfolding wrote_of placed fits_at
   no_room h = (
-    sym (ap (λ (t : Bool). cond t (wrote.Bytes (length text)) (wrote.Refused OutputTooSmall)) (lt-leb (at + length text) (length out) h)),
+    sym (ap (λ (t : Bool). cond t (Ok (length text)) (Err OutputTooSmall)) (lt-leb (at + length text) (length out) h)),
     sym (ap (λ (t : Bool). cond t (take at out ++ (text ++ drop (at + length text) out)) out) (lt-leb (at + length text) (length out) h)),
   )
 
   module _ (h : at + length text ≤ length out) where
-    pub room-wrote : (n : ℕ) → n ≡ length text → wrote.Bytes n ≡ wrote_of out at text
+    pub room-wrote : (n : ℕ) → n ≡ length text → Ok n ≡ wrote_of out at text
     unfolding wrote_of fits_at
     room-wrote n e =
-        ap wrote.Bytes e ∙ sym (ap (λ (t : Bool). cond t (wrote.Bytes (length text)) (wrote.Refused OutputTooSmall)) (le-leb (at + length text) (length out) h))
+        ap Ok e ∙ sym (ap (λ (t : Bool). cond t (Ok (length text)) (Err OutputTooSmall)) (le-leb (at + length text) (length out) h))
 
     mid-is : mid_of at (length out - at) out ≡ drop at out
     mid-is = take_all (length out - at) (drop at out) (omega (arith, length-drop at out))

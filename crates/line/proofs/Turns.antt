@@ -12,8 +12,6 @@ use Rattle.quantity.specs.Keys.{byte_at}
 use Rattle.quantity.specs.declared.refusals.Refusal.{Refusal}
 use Rattle.quantity.specs.declared.refusals.Refusal.TheVariants.{OutputTooSmall}
 use Rattle.reply.specs.declared.requests.Reply.{Reply}
-use Rattle.line.specs.declared.lines.Wrote.{Wrote}
-use Rattle.line.specs.declared.lines.Wrote.TheVariants as wrote
 use Rattle.line.specs.declared.blocks.Piece.{Piece}
 use Rattle.line.specs.declared.blocks.Turn.{Turn}
 use Rattle.request.specs.Reading.{Asked, request_at}
@@ -24,6 +22,7 @@ use Rattle.line.specs.Blocks.{one_more, feed_in, moved_by, feed_after, rest_piec
 use Rattle.request.proofs.Stands.{fits}
 use Rattle.request.proofs.Wholes.{RequestGood, request-ok, text-length}
 use Rattle.laws.proofs.Tests.{clash}
+use Rattle.std.specs.Prelude.{Result, Ok, Err}
 
 -- ---- the next line feed
 pub feed-cons : (b : ℕ) (s : List ℕ) (t : Bool) → eqb b 10 ≡ t → feed_in (b ∷ s) ≡ cond t 1 (one_more (feed_in s))
@@ -255,27 +254,27 @@ module _ (s : List ℕ) (at : ℕ) (out : List ℕ) (w : ℕ) (skipping last : B
         by-step still (record { next = at; wrote = w; skipping = false }) out (ask-step ∙ rw (eq-eqb p.next at z))
         (idle out w (record { next = at; wrote = w; skipping = false }) at false room refl)
 
-    module _ (z : p.next ≡ at → ⊥) (x : Wrote) (after : List ℕ) (wrote-is : x ≡ wrote_of out w text) (after_is : after ≡ placed out w text) where
+    module _ (z : p.next ≡ at → ⊥) (x : Result ℕ Refusal) (after : List ℕ) (wrote-is : x ≡ wrote_of out w text) (after_is : after ≡ placed out w text) where
       abbrev given : Step
       given = record { next = p.next; text = text; skipping = p.skipping }
 
       some : step ≡ cond (leb (length text) (length out - w)) given still
       some = ask-step ∙ rw (ne_eqb p.next at z)
 
-      fitting : (t : Bool) → leb (w + length text) (length out) ≡ t → x ≡ cond t (wrote.Bytes (length text)) (wrote.Refused OutputTooSmall)
+      fitting : (t : Bool) → leb (w + length text) (length out) ≡ t → x ≡ cond t (Ok (length text)) (Err OutputTooSmall)
       unfolding wrote_of fits_at
-      fitting t h = wrote-is ∙ ap (λ (b : Bool). cond b (wrote.Bytes (length text)) (wrote.Refused OutputTooSmall)) h
+      fitting t h = wrote-is ∙ ap (λ (b : Bool). cond b (Ok (length text)) (Err OutputTooSmall)) h
 
       placing : (t : Bool) → leb (w + length text) (length out) ≡ t → after ≡ cond t (take w out ++ (text ++ drop (w + length text) out)) out
       unfolding placed fits_at
       placing t h = after_is ∙ ap (λ (b : Bool). cond b (take w out ++ (text ++ drop (w + length text) out)) out) h
 
-      pub turn-full : (r : Refusal) → x ≡ wrote.Refused r → Turned step out w (record { next = at; wrote = w; skipping = false }) after
+      pub turn-full : (r : Refusal) → x ≡ Err r → Turned step out w (record { next = at; wrote = w; skipping = false }) after
       turn-full r f = go (leb (w + length text) (length out)) refl
         where
           go : (t : Bool) → leb (w + length text) (length out) ≡ t → Turned step out w (record { next = at; wrote = w; skipping = false }) after
           go true h =
-              let q : wrote.Refused r ≡ wrote.Bytes (length text) = sym f ∙ fitting true h in
+              let q : Err r ≡ Ok (length text) = sym f ∙ fitting true h in
               clash cc
           go false h =
               subst (λ (l : List ℕ). Turned step out w (record { next = at; wrote = w; skipping = false }) l) (sym (placing false h))
@@ -283,18 +282,18 @@ module _ (s : List ℕ) (at : ℕ) (out : List ℕ) (w : ℕ) (skipping last : B
               (some ∙ ap (λ (b : Bool). cond b given still) (lt-leb (length text) (length out - w) (omega (arith, leb-false (w + length text) (length out) h))))
               (idle out w (record { next = at; wrote = w; skipping = false }) at false room refl))
 
-      pub turn-told : (n : ℕ) → x ≡ wrote.Bytes n
+      pub turn-told : (n : ℕ) → x ≡ Ok n
           → (w + n ≤ length out) × Turned step out w (record { next = p.next; wrote = w + n; skipping = p.skipping }) after
       turn-told n f = go (leb (w + length text) (length out)) refl
         where
           go : (t : Bool) → leb (w + length text) (length out) ≡ t
               → (w + n ≤ length out) × Turned step out w (record { next = p.next; wrote = w + n; skipping = p.skipping }) after
           go false h =
-              let q : wrote.Bytes n ≡ wrote.Refused OutputTooSmall = sym f ∙ fitting false h in
+              let q : Ok n ≡ Err OutputTooSmall = sym f ∙ fitting false h in
               clash cc
           go true h =
               let fit : w + length text ≤ length out = leb-true (w + length text) (length out) h in
-              let q : wrote.Bytes n ≡ wrote.Bytes (length text) = sym f ∙ fitting true h in
+              let q : Ok n ≡ Ok (length text) = sym f ∙ fitting true h in
               let m : n ≡ length text = cc in (
                 omega arith,
                 by-step given (record { next = p.next; wrote = w + n; skipping = p.skipping }) after

@@ -1,13 +1,12 @@
 -- Document 01, "Request and answer lines" and "Refusal numbers": what a whole run is, and where an answer is written.
-use Rattle.std.specs.Prelude.{Bool, true, false, cond, List, [], ◌∷◌, ◌++◌, ℕ, ◌+◌, leb, eqb, length, take, drop}
+use Rattle.std.specs.Prelude.{Bool, true, false, cond, List, [], ◌∷◌, ◌++◌, ℕ, ◌+◌, leb, eqb, length, take, drop, Result, Ok, Err}
 use Rattle.quantity.specs.Refusals.{number_of}
 use Rattle.quantity.specs.Answers.{Answer}
 use Rattle.quantity.specs.Answers.Answer.{refused, numbers}
+use Rattle.quantity.specs.declared.refusals.Refusal.{Refusal}
 use Rattle.quantity.specs.declared.refusals.Refusal.TheVariants.{OutputTooSmall}
 use Rattle.answer.specs.Texts.{line_feed}
 use Rattle.reply.specs.Answers.{answer_of}
-use Rattle.line.specs.declared.lines.Wrote.{Wrote}
-use Rattle.line.specs.declared.lines.Wrote.TheVariants as wrote
 
 -- the lines of a run: each with its line feed, "a last line without its line feed included"
 abbrev pub joined : ℕ → List (List ℕ) → List (List ℕ)
@@ -34,10 +33,10 @@ fits_at out at text = leb (at + length text) (length out)
 unfoldable pub placed : List ℕ → ℕ → List ℕ → List ℕ
 placed out at text = cond (fits_at out at text) (take at out ++ (text ++ drop (at + length text) out)) out
 
-unfoldable pub wrote_of : List ℕ → ℕ → List ℕ → Wrote
-wrote_of out at text = cond (fits_at out at text) (wrote.Bytes (length text)) (wrote.Refused OutputTooSmall)
+unfoldable pub wrote_of : List ℕ → ℕ → List ℕ → Result ℕ Refusal
+wrote_of out at text = cond (fits_at out at text) (Ok (length text)) (Err OutputTooSmall)
 
 -- in the paper's numbers: the length of the answer line, or the refusal
-abbrev pub wrote_answer : Wrote → Answer ℕ
-wrote_answer (wrote.Bytes n) = numbers (n ∷ [])
-wrote_answer (wrote.Refused r) = refused (number_of r)
+abbrev pub wrote_answer : Result ℕ Refusal → Answer ℕ
+wrote_answer (Ok n) = numbers (n ∷ [])
+wrote_answer (Err r) = refused (number_of r)

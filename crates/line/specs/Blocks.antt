@@ -1,5 +1,5 @@
 -- A run in parts: what one block call answers, and what it carries on.
-use Rattle.std.specs.Prelude.{Bool, true, false, cond, List, [], ◌∷◌, ◌++◌, ◌≡◌, ℕ, zero, suc, ◌+◌, ◌-◌, ◌≤◌, leb, ltb, eqb, length, take, drop}
+use Rattle.std.specs.Prelude.{Bool, true, false, cond, List, [], ◌∷◌, ◌++◌, ◌≡◌, ℕ, zero, suc, ◌+◌, ◌-◌, ◌≤◌, leb, ltb, eqb, length, take, drop, Option, None, Some, option_map}
 use Rattle.line.specs.declared.blocks.Piece.{Piece}
 use Rattle.line.specs.declared.blocks.Turn.{Turn}
 use Rattle.line.specs.declared.blocks.Progress.{Progress}
@@ -17,15 +17,15 @@ unfoldable pub feed_in : List ℕ → ℕ
 feed_in [] = 0
 feed_in (b ∷ s) = elim (eqb b line_feed) [ true ↦ 1 | false ↦ one_more (feed_in s) ]
 
-abbrev pub moved_by : ℕ → ℕ → ℕ
-moved_by at zero = 0
-moved_by at (suc n) = at + suc n
+abbrev pub moved_by : ℕ → ℕ → Option ℕ
+moved_by at zero = None
+moved_by at (suc n) = Some (at + suc n)
 
--- the position after the first line feed from a position on
-unfoldable pub feed_after : List ℕ → ℕ → ℕ
+-- the position after the first line feed from a position on, if there is one
+unfoldable pub feed_after : List ℕ → ℕ → Option ℕ
 feed_after s at = moved_by at (feed_in (drop at s))
 
--- the next piece of a part that asks for an answer: a request, which ends at `next`; a line that is none (`next` is 0); "a longer
+-- the next piece of a part that asks for an answer: a request, which ends at `next`; a line that is none (no `next`); "a longer
 -- line" whose line feed is not in the part, to be skipped to its line feed; at the end of the input, what is left. None: the
 -- position stays
 abbrev pub rest_piece : ℕ → ℕ → Bool → Piece
@@ -33,13 +33,13 @@ rest_piece at n last =
     cond (leb (at + 512) n) (record { next = n; skipping = true })
     (cond last (record { next = n; skipping = false }) (record { next = at; skipping = false }))
 
-abbrev pub feed_piece : ℕ → ℕ → ℕ → Bool → Piece
-feed_piece at n zero last = rest_piece at n last
-feed_piece at n (suc e) last = record { next = suc e; skipping = false }
+abbrev pub feed_piece : ℕ → ℕ → Option ℕ → Bool → Piece
+feed_piece at n None last = rest_piece at n last
+feed_piece at n (Some end) last = record { next = end; skipping = false }
 
-unfoldable pub piece_at : List ℕ → ℕ → Bool → ℕ → Piece
-piece_at s at last zero = feed_piece at (length s) (feed_after s at) last
-piece_at s at last (suc next) = record { next = suc next; skipping = false }
+unfoldable pub piece_at : List ℕ → ℕ → Bool → Option ℕ → Piece
+piece_at s at last None = feed_piece at (length s) (feed_after s at) last
+piece_at s at last (Some next) = record { next = next; skipping = false }
 
 -- one turn: skip, or answer the next piece if there is room
 pub record Step : Type 0 where
@@ -47,9 +47,9 @@ pub record Step : Type 0 where
   pub text : List ℕ
   pub skipping : Bool
 
-abbrev pub skip_by : ℕ → ℕ → Step
-skip_by n zero = record { next = n; text = []; skipping = true }
-skip_by n (suc e) = record { next = suc e; text = []; skipping = false }
+abbrev pub skip_by : ℕ → Option ℕ → Step
+skip_by n None = record { next = n; text = []; skipping = true }
+skip_by n (Some end) = record { next = end; text = []; skipping = false }
 
 abbrev pub answer_by : ℕ → ℕ → List ℕ → Piece → Step
 answer_by at room text p =
@@ -60,7 +60,7 @@ answer_by at room text p =
 unfoldable pub step_at : List ℕ → ℕ → ℕ → Bool → Bool → Step
 step_at s at room skipping last = elim skipping [
   | true ↦ skip_by (length s) (feed_after s at)
-  | false ↦ answer_by at room (reply_text s (reply_at s at)) (piece_at s at last (reply_at s at).next)
+  | false ↦ answer_by at room (reply_text s (reply_at s at)) (piece_at s at last (option_map (λ r. r.next) (reply_at s at)))
 ]
 
 -- turns until one takes nothing, or nothing is left

@@ -1,10 +1,9 @@
 // The block call: all whole lines of a part of the input, in order.
-ghost use Rattle.std.specs.Prelude.{◌≡◌, ◌≤◌, ◌-◌, length};
-ghost use Rattle.energy.specs.Tabled.{Tabled};
+ghost use Rattle.std.specs.Prelude.{◌≡◌, ◌≤◌, ◌-◌, length, option_map};
 ghost use Rattle.line.specs.Blocks.{feed_after, piece_at, step_at, Turned, block_of, Answered};
 
-use crate::lines::{Wrote, answer_at};
-use energy::{Cell, tables_of_many};
+use crate::lines::answer_at;
+use energy::{RatingTables, tables_of_many};
 use reply::reply_at;
 
 // The next piece of a part: the position after it (its own where there is none), and whether a long line goes on past the part.
@@ -30,35 +29,32 @@ pub struct Progress {
     pub skipping: bool,
 }
 
-// The position after the first line feed from a position on; 0 where there is none.
-fn feed_after(s: &[u8], at: usize) -> usize
+// The position after the first line feed from a position on, if there is one.
+fn feed_after(s: &[u8], at: usize) -> Option<usize>
     ensures { result ≡ feed_after s.now at }
 {
-    let mut i = at;
-    while i < s.len() {
+    for i in at..s.len() {
         if s[i] == b'\n' {
-            return i + 1;
+            return Some(i + 1);
         }
-        i += 1;
     }
-    0
+    None
 }
 
-// The next piece that asks for an answer. A request that was read there ends at `next`, which is 0 where none was.
-fn piece_at(s: &[u8], at: usize, last: bool, next: usize) -> Piece
+// The next piece that asks for an answer. A request that was read there ends at `next`.
+fn piece_at(s: &[u8], at: usize, last: bool, next: Option<usize>) -> Piece
     requires { at ≤ length s.now }
     ensures { result ≡ piece_at s.now at last next }
 {
-    if next != 0 {
+    if let Some(next) = next {
         return Piece {
             next,
             skipping: false,
         };
     }
-    let end = feed_after(s, at);
-    if end != 0 {
+    if let Some(next) = feed_after(s, at) {
         return Piece {
-            next: end,
+            next,
             skipping: false,
         };
     }
@@ -88,34 +84,31 @@ fn turn_at(
     wrote: usize,
     skipping: bool,
     last: bool,
-    tables: &[Cell],
-    many: bool,
+    tables: RatingTables,
 ) -> Turn
     requires at_in_bounds { at ≤ length s.now }
     requires wrote_in_bounds { wrote ≤ length out.old }
-    requires tabled { Tabled many tables.now }
     ensures { Turned (step_at s.now at (length out.old - wrote) skipping last) out.old wrote result out.new }
 {
     if skipping {
-        let end = feed_after(s, at);
-        if end == 0 {
-            return Turn {
+        return match feed_after(s, at) {
+            None => Turn {
                 next: s.len(),
                 wrote,
                 skipping: true,
-            };
-        }
-        return Turn {
-            next: end,
-            wrote,
-            skipping: false,
+            },
+            Some(next) => Turn {
+                next,
+                wrote,
+                skipping: false,
+            },
         };
     }
-    let reply = reply_at(s, at, tables, many);
-    let piece = piece_at(s, at, last, reply.next);
+    let reply = reply_at(s, at, tables);
+    let piece = piece_at(s, at, last, reply.map(|r| r.next));
     let next = piece.next;
     if next != at {
-        if let Wrote::Bytes(n) = answer_at(s, reply, out, wrote) {
+        if let Ok(n) = answer_at(s, reply, out, wrote) {
             return Turn {
                 next,
                 wrote: wrote + n,
@@ -136,17 +129,15 @@ fn turns(
     out: &mut [u8],
     skipping: bool,
     last: bool,
-    tables: &[Cell],
-    many: bool,
+    tables: RatingTables,
 ) -> Progress
-    requires { Tabled many tables.now }
     ensures { Answered (block_of input.now (length out.old) skipping last) input.now out.old result out.new }
 {
     let mut used = 0usize;
     let mut wrote = 0usize;
     let mut skip = skipping;
     while used < input.len() {
-        let t = turn_at(input, used, out, wrote, skip, last, tables, many);
+        let t = turn_at(input, used, out, wrote, skip, last, tables);
         if t.next == used {
             break;
         }
@@ -166,6 +157,6 @@ fn turns(
 pub fn answer_block(input: &[u8], out: &mut [u8], skipping: bool, last: bool) -> Progress
     ensures { Answered (block_of input.now (length out.old) skipping last) input.now out.old result out.new }
 {
-    let tables = tables_of_many();
-    turns(input, out, skipping, last, &tables, true)
+    let cells = tables_of_many();
+    turns(input, out, skipping, last, RatingTables::for_many(&cells))
 }

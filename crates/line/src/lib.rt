@@ -9,4 +9,4 @@ mod blocks;
 mod lines;
 
 pub use blocks::{Progress, answer_block};
-pub use lines::{Wrote, answer_line};
+pub use lines::answer_line;

@@ -4,8 +4,6 @@ ghost use Rattle.curve.specs.Levels.{at};
 ghost use Rattle.laws.specs.Lists.{front};
 ghost use Rattle.sets.specs.Gains.{by_gains, joined_by, Bounded, PartOf};
 
-use quantity::naturals::lesser;
-
 // A set of bands as far as it is put together: its bands, the sum and the least of their gains, and the first band that may
 // follow.
 #[derive(Clone, Copy)]
@@ -26,7 +24,7 @@ fn joined(part: Part, band: usize, gain: u32) -> Part
     Part {
         mask: part.mask + (1 << band),
         sum: part.sum + gain,
-        least: lesser(part.least, gain),
+        least: part.least.min(gain),
         from: band + 1,
     }
 }
@@ -46,15 +44,13 @@ fn put_last(part: Part, gains: &[u32; 16], bands: usize, need: u32, out: &mut [u
     let left = need - part.sum;
     let bound = left + part.least;
     let mut count = 0;
-    let mut i = part.from;
-    while i < bands {
+    for i in part.from..bands {
         if left <= gains[i] {
             if gains[i] < bound {
                 out[count] = part.mask + (1 << i);
                 count += 1;
             }
         }
-        i += 1;
     }
     count
 }
@@ -68,11 +64,9 @@ fn put_two(part: Part, gains: &[u32; 16], bands: usize, need: u32, out: &mut [u1
     ensures out_after { out.new ≡ front (joined_by (at gains.now) need bands 2 part.mask part.from) out.old }
 {
     let mut count = 0;
-    let mut i = part.from;
-    while i < bands {
+    for i in part.from..bands {
         let longer = joined(part, i, gains[i]);
         count += put_last(longer, gains, bands, need, &mut out[count..]);
-        i += 1;
     }
     count
 }
@@ -86,11 +80,9 @@ fn put_three(part: Part, gains: &[u32; 16], bands: usize, need: u32, out: &mut [
     ensures out_after { out.new ≡ front (joined_by (at gains.now) need bands 3 part.mask part.from) out.old }
 {
     let mut count = 0;
-    let mut i = part.from;
-    while i < bands {
+    for i in part.from..bands {
         let longer = joined(part, i, gains[i]);
         count += put_two(longer, gains, bands, need, &mut out[count..]);
-        i += 1;
     }
     count
 }
@@ -136,10 +128,8 @@ pub fn fill(gains: &[u32; 16], bands: usize, need: u32, out: &mut [u16]) -> usiz
         from: 0,
     };
     let mut count = 0;
-    let mut more = 0;
-    while more < 3 {
+    for more in 0..3 {
         count += put_sets(more, none, gains, bands, need, &mut out[count..]);
-        more += 1;
     }
     count
 }

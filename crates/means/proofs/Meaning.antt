@@ -13,9 +13,7 @@ use Rattle.quantity.specs.Quantities.{in_range, band_of, tenths, nought}
 use Rattle.quantity.specs.declared.quantities.Tenths.{Tenths}
 use Rattle.quantity.specs.declared.quantities.BandSet.{BandSet}
 use Rattle.quantity.specs.declared.quantities.Reading.{Reading}
-use Rattle.quantity.specs.declared.refusals.Outcome.TheVariants.{Accepted}
 use Rattle.measurement.specs.declared.lists.Readings.{Readings}
-use Rattle.measurement.specs.declared.lists.Intake.{Intake}
 use Rattle.measurement.specs.Lists.{all_of, refusal_in}
 use Rattle.measurement.proofs.Runs.{outcome-is}
 use Rattle.curve.specs.Bands.{accepted}
@@ -23,13 +21,14 @@ use Rattle.laws.specs.Tests.{bit}
 use Rattle.laws.proofs.Ranges.{all_made}
 use Rattle.curve.proofs.Searched.{band-in}
 use Rattle.kinds.specs.declared.kinds.Kind.TheVariants.{A1}
-use Rattle.rating.specs.declared.sheets.Rated.TheVariants.{Rating}
 use Rattle.rating.specs.Sheets.{sheet_of, rated_of}
 use Rattle.rating.proofs.RatedLaws.{in_order}
 use Rattle.means.specs.Sets.{placed, mean_at, mark_at, means_of, octaves_of, specimens_of}
 use Rattle.means.proofs.Averages.{mean-range}
 use Rattle.means.proofs.Marks.{marks-bit}
 use Rattle.means.proofs.Thirds.{octaves-made, specimens-made, taken-values}
+use Rattle.std.specs.Prelude.{Result, Ok, None}
+use Rattle.quantity.specs.declared.refusals.Refusal.{Refusal}
 
 -- ---- sets of means
 module _ (x : ℕ → ℤ) (marks n step stride : ℕ) (most : n ≤ 16) where
@@ -61,32 +60,32 @@ len_is x marks n step stride = refl
 
 -- ---- octaves of an accepted set are accepted, and rated
 pub octaves-are : (s : BandSet) → s.len ≡ 16 → accepted s 16 ≡ true
-    → ◌≡◌ {A = Intake} (record { outcome = Accepted; set = means_of (band_of s) s.marks 5 3 1 }) (octaves_of s)
+    → ◌≡◌ {A = (Result BandSet Refusal)} (record { outcome = None; set = means_of (band_of s) s.marks 5 3 1 }) (octaves_of s)
 octaves-are s e acc = octaves-made s s.values (means_of (band_of s) s.marks 5 3 1) e acc (λ i. refl) refl
 
 pub octaves-rated : (s : BandSet) → s.len ≡ 16 → accepted s 16 ≡ true
-    → Rating (sheet_of A1 (octaves_of s).set) ≡ rated_of A1 (octaves_of s).set
+    → Ok (sheet_of A1 (octaves_of s).set) ≡ rated_of A1 (octaves_of s).set
 octaves-rated s e acc =
-    ap (λ (t : Intake). Rating (sheet_of A1 t.set)) (sym (octaves-are s e acc))
+    ap (λ (t : Result BandSet Refusal). Ok (sheet_of A1 t.set)) (sym (octaves-are s e acc))
     ∙ in_order A1 (means_of (band_of s) s.marks 5 3 1) 5 (sheet_of A1 (means_of (band_of s) s.marks 5 3 1)) refl (len_is (band_of s) s.marks 5 3 1)
     (means-accepted (band_of s) s.marks 5 3 1 (omega arith) 16 (λ j h. omega arith) (band-in s 16 acc)) refl
-    ∙ ap (λ (t : Intake). rated_of A1 t.set) (octaves-are s e acc)
+    ∙ ap (λ (t : Result BandSet Refusal). rated_of A1 t.set) (octaves-are s e acc)
 
 -- ---- the means of 48 accepted readings are accepted: neither 1 nor 4 can come from them
-module _ (readings : List Reading) (acc : refusal_in readings 48 ≡ Accepted) where
+module _ (readings : List Reading) (acc : refusal_in readings 48 ≡ None) where
   abbrev all : Readings
   all = all_of readings 48
 
   abbrev means : BandSet
   means = means_of (placed all.values) all.marks 16 1 16
 
-  taken : all.outcome ≡ Accepted
+  taken : all.outcome ≡ None
   taken = outcome-is readings 48 all refl ∙ acc
 
-  pub specimens-are : ◌≡◌ {A = Intake} (record { outcome = Accepted; set = means }) (specimens_of readings 48)
+  pub specimens-are : ◌≡◌ {A = (Result BandSet Refusal)} (record { outcome = None; set = means }) (specimens_of readings 48)
   specimens-are = specimens-made readings 48 all refl refl means taken refl
 
   pub specimens-accepted : accepted (specimens_of readings 48).set 16 ≡ true
   specimens-accepted =
-      ap (λ (t : Intake). accepted t.set 16) (sym specimens-are)
+      ap (λ (t : Result BandSet Refusal). accepted t.set 16) (sym specimens-are)
       ∙ means-accepted (placed all.values) all.marks 16 1 16 (omega arith) 48 (λ j h. omega arith) (taken-values readings 48 all refl refl taken)

@@ -15,7 +15,6 @@ use Rattle.quantity.specs.Quantities.{band_of, tenths}
 use Rattle.quantity.specs.declared.quantities.BandSet.{BandSet}
 use Rattle.quantity.specs.declared.quantities.Reading.{Reading}
 use Rattle.quantity.specs.declared.refusals.Refusal.TheVariants.{BandCount, BandRange, SpecimenCount}
-use Rattle.quantity.specs.declared.refusals.Outcome.TheVariants.{Accepted}
 use Rattle.measurement.specs.declared.lists.Readings.{Readings}
 use Rattle.measurement.specs.Lists.{weight_of, all_of, refused_list}
 use Rattle.measurement.proofs.Past.{Alike, all_past}
@@ -23,6 +22,7 @@ use Rattle.laws.specs.Tests.{bit}
 use Rattle.rating.proofs.Theorems.{accepted-same, Stated, past_by}
 use Rattle.means.specs.Means.{mean_of₃}
 use Rattle.means.specs.Sets.{marks_to, mean_at, mark_at, means_of, octaves_of, specimens_by, specimens_of}
+use Rattle.std.specs.Prelude.{None}
 
 marks-alike : (f g : ℕ → Bool) (n : ℕ) → ((j : ℕ) → j < n → f j ≡ g j) → marks_to f n ≡ marks_to g n
 unfolding marks_to
@@ -74,7 +74,7 @@ octaves-agreed s t len values marks =
     let m : means_of (band_of s) s.marks 5 3 1 ≡ means_of (band_of t) t.marks 5 3 1 =
     means-alike (band_of s) (band_of t) s.marks t.marks 5 3 1 16 (λ j h. omega arith) values marks in
     λ i. cond (eqb (len i) 16)
-    (cond (accepted-same s t 16 values i) (record { outcome = Accepted; set = m i }) (refused_list BandRange))
+    (cond (accepted-same s t 16 values i) (record { outcome = None; set = m i }) (refused_list BandRange))
     (refused_list BandCount)
 
 pub octaves-past : (s t : BandSet) → Stated s t → octaves_of s ≡ octaves_of t

@@ -16,9 +16,7 @@ use Rattle.quantity.specs.declared.quantities.BandSet.{BandSet}
 use Rattle.quantity.specs.declared.quantities.Reading.{Reading}
 use Rattle.quantity.specs.declared.refusals.Refusal.{Refusal}
 use Rattle.quantity.specs.declared.refusals.Refusal.TheVariants.{BandCount, BandRange, SpecimenCount}
-use Rattle.quantity.specs.declared.refusals.Outcome.TheVariants.{Accepted, Refused}
 use Rattle.measurement.specs.declared.lists.Readings.{Readings}
-use Rattle.measurement.specs.declared.lists.Intake.{Intake}
 use Rattle.measurement.specs.Lists.{weight_of, all_of, refused_list}
 use Rattle.measurement.proofs.Runs.{outcome-is, accepted-is}
 use Rattle.measurement.proofs.Meaning.{value-range}
@@ -27,6 +25,7 @@ use Rattle.curve.proofs.Searched.{band-in}
 use Rattle.means.specs.Sets.{marks_to, mean_at, mark_at, means_of, octaves_of, placed, specimens_by, specimens_of}
 use Rattle.means.proofs.Filling.{Filled, filled_none, filled_more, filled-list}
 use Rattle.means.proofs.Marks.{marks-none, marks-more}
+use Rattle.std.specs.Prelude.{Result, Some, None}
 
 -- ---- the loop: the first j means and their marks
 pub record Made (x : ℕ → ℤ) (marks count step stride : ℕ) (out : List Tenths) (limits j : ℕ) : Type 0 where
@@ -75,11 +74,11 @@ octaves-range s e f = rw (eq-eqb s.len 16 e, f) refl
 
 pub octaves-made : (s : BandSet) (values : List Tenths) (m : BandSet) → s.len ≡ 16 → accepted s 16 ≡ true
     → ((i : ℕ) → get_or values i nought ≡ get_or s.values i nought) → m ≡ means_of (placed values) s.marks 5 3 1
-    → ◌≡◌ {A = Intake} (record { outcome = Accepted; set = m }) (octaves_of s)
+    → ◌≡◌ {A = (Result BandSet Refusal)} (record { outcome = None; set = m }) (octaves_of s)
 unfolding octaves_of
 octaves-made s values m e f h g =
     rw (eq-eqb s.len 16 e, f)
-    (ap (λ (t : BandSet). record { outcome = Accepted; set = t })
+    (ap (λ (t : BandSet). record { outcome = None; set = t })
     (g ∙ means-same (placed values) (band_of s) s.marks 5 3 1 (λ i. ap (λ (t : Tenths). t.0) (h i))))
 
 -- sixteen bands in range, and zeros after them
@@ -102,15 +101,15 @@ module _ (readings : List Reading) (len : ℕ) (all : Readings) (e : len ≡ 48)
   unfolding specimens_of
   by-outcome = rw (eq-eqb len 48 e) (ap (λ (r : Readings). specimens_by r r.outcome) a)
 
-  pub specimens-refused : (r : Refusal) → all.outcome ≡ Refused r → refused_list r ≡ specimens_of readings len
+  pub specimens-refused : (r : Refusal) → all.outcome ≡ Some r → refused_list r ≡ specimens_of readings len
   specimens-refused r f = ap (specimens_by all) (sym f) ∙ by-outcome
 
-  pub specimens-made : (m : BandSet) → all.outcome ≡ Accepted → m ≡ means_of (placed all.values) all.marks 16 1 16
-      → ◌≡◌ {A = Intake} (record { outcome = Accepted; set = m }) (specimens_of readings len)
-  specimens-made m f g = ap (λ (t : BandSet). record { outcome = Accepted; set = t }) g ∙ ap (specimens_by all) (sym f) ∙ by-outcome
+  pub specimens-made : (m : BandSet) → all.outcome ≡ None → m ≡ means_of (placed all.values) all.marks 16 1 16
+      → ◌≡◌ {A = (Result BandSet Refusal)} (record { outcome = None; set = m }) (specimens_of readings len)
+  specimens-made m f g = ap (λ (t : BandSet). record { outcome = None; set = t }) g ∙ ap (specimens_by all) (sym f) ∙ by-outcome
 
   -- the values that were taken are band values
-  pub taken-values : all.outcome ≡ Accepted → (i : ℕ) → i < 48 → in_range (placed all.values i) ≡ true
+  pub taken-values : all.outcome ≡ None → (i : ℕ) → i < 48 → in_range (placed all.values i) ≡ true
   taken-values f i h =
       ap (λ (r : Readings). in_range (placed r.values i)) (accepted-is readings 48 all a f)
       ∙ value-range readings 48 48 i (sym (outcome-is readings 48 all a) ∙ f) h (omega arith)

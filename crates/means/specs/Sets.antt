@@ -1,17 +1,15 @@
 -- Document 01, "Sums of energies" and "Background and reverberation": octaves from an A3 set, and the means of three specimens,
 -- with their marks. Both are means of three values at places j * step, and one and two strides further.
-use Rattle.std.specs.Prelude.{Bool, cond, ◌||◌, List, ℕ, zero, suc, ◌+◌, ◌*◌, eqb, ltb, ℤ, pos, get_or}
+use Rattle.std.specs.Prelude.{Bool, cond, ◌||◌, List, ℕ, zero, suc, ◌+◌, ◌*◌, eqb, ltb, ℤ, pos, get_or, Result, Ok, Err}
 use Rattle.laws.specs.Lists.{listed}
 use Rattle.quantity.specs.Quantities.{band_of, tenths, nought}
 use Rattle.quantity.specs.declared.quantities.Tenths.{Tenths}
 use Rattle.quantity.specs.declared.quantities.BandSet.{BandSet}
 use Rattle.quantity.specs.declared.quantities.Reading.{Reading}
+use Rattle.quantity.specs.declared.refusals.Refusal.{Refusal}
 use Rattle.quantity.specs.declared.refusals.Refusal.TheVariants.{BandCount, BandRange, SpecimenCount}
-use Rattle.quantity.specs.declared.refusals.Outcome.{Outcome}
-use Rattle.quantity.specs.declared.refusals.Outcome.TheVariants.{Accepted, Refused}
 use Rattle.measurement.specs.declared.lists.Readings.{Readings}
-use Rattle.measurement.specs.declared.lists.Intake.{Intake}
-use Rattle.measurement.specs.Lists.{weight_of, all_of, refused_list}
+use Rattle.measurement.specs.Lists.{weight_of, all_of}
 use Rattle.curve.specs.Bands.{accepted}
 use Rattle.laws.specs.Tests.{bit}
 use Rattle.kinds.specs.declared.kinds.Kind.TheVariants.{A3, A1}
@@ -42,20 +40,20 @@ means_of x marks n step stride = record {
 }
 
 -- "the mean of bands 1 to 3, 4 to 6, and so on to 13 to 15. The last third is not used."
-unfoldable pub octaves_of : BandSet → Intake
+unfoldable pub octaves_of : BandSet → Result BandSet Refusal
 octaves_of s =
     cond (eqb s.len (bands_of A3))
-    (cond (accepted s (bands_of A3)) (record { outcome = Accepted; set = means_of (band_of s) s.marks (bands_of A1) 3 1 }) (refused_list BandRange))
-    (refused_list BandCount)
+    (cond (accepted s (bands_of A3)) (Ok (means_of (band_of s) s.marks (bands_of A1) 3 1)) (Err BandRange))
+    (Err BandCount)
 
 -- the value at a place of a list
 abbrev pub placed : List Tenths → ℕ → ℤ
 placed values i = (get_or values i nought).0
 
 -- "48 readings, specimen after specimen, each from its lowest band": band j of the three is at j, j + 16 and j + 32
-abbrev pub specimens_by : Readings → Outcome → Intake
-specimens_by r Accepted = record { outcome = Accepted; set = means_of (placed r.values) r.marks (bands_of A3) 1 (bands_of A3) }
-specimens_by r (Refused n) = refused_list n
+abbrev pub specimens_by : Result Readings Refusal → Result BandSet Refusal
+specimens_by (Ok r) = Ok (means_of (placed r.values) r.marks (bands_of A3) 1 (bands_of A3))
+specimens_by (Err n) = Err n
 
-unfoldable pub specimens_of : List Reading → ℕ → Intake
-specimens_of readings len = cond (eqb len 48) (specimens_by (all_of readings 48) (all_of readings 48).outcome) (refused_list SpecimenCount)
+unfoldable pub specimens_of : List Reading → ℕ → Result BandSet Refusal
+specimens_of readings len = cond (eqb len 48) (specimens_by (all_of readings 48)) (Err SpecimenCount)

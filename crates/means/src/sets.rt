@@ -1,6 +1,5 @@
 // Means of three: octaves from thirds, and the means of three specimens.
 ghost use Rattle.std.specs.Prelude.{◌≡◌, true, ℕ, ◌+◌, ◌*◌, ◌≤◌, ◌<◌, get_or};
-ghost use Rattle.energy.specs.Tabled.{MeanTabled};
 ghost use Rattle.quantity.specs.Quantities.{in_range, nought};
 ghost use Rattle.measurement.specs.Lists.{weight_of};
 ghost use Rattle.laws.specs.Tests.{bit};
@@ -8,22 +7,21 @@ ghost use Rattle.means.specs.Means.{mean_of₃};
 ghost use Rattle.means.specs.Sets.{marked₃, placed, means_of, octaves_of, specimens_of};
 
 use curve::levels::all_in_range;
-use energy::{Cell, mean_of_three, mean_tables};
-use kinds::{A1Kind, A3Kind};
-use measurement::{Intake, refused_list, take_all};
+use energy::{MeanTables, mean_tables};
+use kinds::{A1Kind, A3Kind, RatingKind};
+use measurement::take_all;
 use quantity::signed::{above, less};
-use quantity::{BandSet, Outcome, Reading, Refusal, Tenths};
+use quantity::{BandSet, Reading, Refusal, Tenths};
 
 // The readings of three specimens.
 const READINGS: usize = 3 * A3Kind::BANDS;
 
 // The mean of three band values, each counted from -20.0 dB.
-fn mean(x: Tenths, y: Tenths, z: Tenths, tables: &[Cell]) -> Tenths
-    requires ranged { (in_range x.0 ≡ true) × (in_range y.0 ≡ true) × (in_range z.0 ≡ true) }
-    requires mean_tabled { MeanTabled tables.now }
+fn mean(x: Tenths, y: Tenths, z: Tenths, tables: &MeanTables) -> Tenths
+    requires { (in_range x.0 ≡ true) × (in_range y.0 ≡ true) × (in_range z.0 ≡ true) }
     ensures { result.0 ≡ mean_of₃ x.0 y.0 z.0 }
 {
-    let counted = mean_of_three(above(x.0, 200), above(y.0, 200), above(z.0, 200), tables);
+    let counted = tables.mean_of_three(above(x.0, 200), above(y.0, 200), above(z.0, 200));
     Tenths(less(counted, 200))
 }
 
@@ -64,18 +62,16 @@ fn means(
     count: usize,
     step: usize,
     stride: usize,
-    tables: &[Cell],
+    tables: &MeanTables,
 ) -> BandSet
     requires count_bound { count ≤ 16 }
     requires in_bounds { (j : ℕ) → j < count → j * step + 2 * stride < 48 }
     requires ranged { (i : ℕ) → i < 48 → in_range (placed values i) ≡ true }
-    requires mean_tabled { MeanTabled tables.now }
     ensures { result ≡ means_of (placed values) marks count step stride }
 {
     let mut out = [Tenths(0); 16];
     let mut limits = 0u16;
-    let mut j = 0;
-    while j < count {
+    for j in 0..count {
         let i = j * step;
         let x = values[i];
         let y = values[i + stride];
@@ -83,7 +79,6 @@ fn means(
         let value = mean(x, y, z, tables);
         out[j] = value;
         limits += weight(marked_of_three(marks, i, stride), j);
-        j += 1;
     }
     BandSet {
         values: out,
@@ -98,55 +93,44 @@ fn widened(values: [Tenths; 16]) -> [Tenths; 48]
     ensures rest { (i : ℕ) → 16 ≤ i → get_or result i nought ≡ nought }
 {
     let mut out = [Tenths(0); 48];
-    let mut i = 0;
-    while i < 16 {
+    for i in 0..16 {
         let value = values[i];
         out[i] = value;
-        i += 1;
     }
     out
 }
 
 // Five octaves from a set of sixteen thirds: 1 where it has another length, then 4 where a band is out of range.
-pub fn octaves(set: BandSet) -> Intake
+pub fn octaves(set: BandSet) -> Result<BandSet, Refusal>
     ensures { result ≡ octaves_of set }
 {
     if set.len != A3Kind::BANDS {
-        return refused_list(Refusal::BandCount);
+        return Err(Refusal::BandCount);
     }
     if !all_in_range(set, A3Kind::BANDS) {
-        return refused_list(Refusal::BandRange);
+        return Err(Refusal::BandRange);
     }
-    let thirds = set.values;
-    let values = widened(thirds);
+    let values = widened(set.values);
     let tables = mean_tables();
-    let means = means(values, set.marks as u64, A1Kind::BANDS, 3, 1, &tables);
-    Intake {
-        outcome: Outcome::Accepted,
-        set: means,
-    }
+    Ok(means(values, set.marks as u64, A1Kind::BANDS, 3, 1, &tables))
 }
 
 // The sixteen means of three specimens, given as 48 readings one specimen after the other: 12 where `len` is another number,
 // then the refusal of the first reading that is refused.
-pub fn specimens(readings: [Reading; 48], len: usize) -> Intake
+pub fn specimens(readings: [Reading; 48], len: usize) -> Result<BandSet, Refusal>
     ensures { result ≡ specimens_of readings len }
 {
     if len != READINGS {
-        return refused_list(Refusal::SpecimenCount);
+        return Err(Refusal::SpecimenCount);
     }
-    let all = take_all(readings, READINGS);
-    let outcome = all.outcome;
-    match outcome {
-        Outcome::Refused(refusal) => refused_list(refusal),
-        Outcome::Accepted => {
-            let values = all.values;
-            let tables = mean_tables();
-            let means = means(values, all.marks, A3Kind::BANDS, 1, A3Kind::BANDS, &tables);
-            Intake {
-                outcome: Outcome::Accepted,
-                set: means,
-            }
-        }
-    }
+    let all = take_all(readings, READINGS)?;
+    let tables = mean_tables();
+    Ok(means(
+        all.values,
+        all.marks,
+        A3Kind::BANDS,
+        1,
+        A3Kind::BANDS,
+        &tables,
+    ))
 }

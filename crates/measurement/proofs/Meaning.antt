@@ -20,35 +20,32 @@ use Rattle.quantity.specs.declared.quantities.Reading.TheVariants.{Level}
 use Rattle.quantity.specs.declared.refusals.Refusal.{Refusal}
 use Rattle.quantity.specs.declared.refusals.Refusal.TheVariants.{BandCount}
 use Rattle.quantity.specs.Refusals.{or_else}
-use Rattle.intake.specs.declared.singles.Taken.{Taken}
-use Rattle.intake.specs.declared.singles.Taken.TheVariants as one
-use Rattle.quantity.specs.declared.refusals.Outcome.{Outcome}
-use Rattle.quantity.specs.declared.refusals.Outcome.TheVariants.{Accepted, Refused}
-use Rattle.measurement.specs.declared.lists.Intake.{Intake}
 use Rattle.measurement.specs.Lists.{taken_at, value_of, limit_of, outcome_of, refusal_in, weight_of, marks_in, values_in, set_of, refused_list, list_by, list_of}
 use Rattle.intake.proofs.Meaning.{taken-range}
 use Rattle.measurement.proofs.Runs.{marks-bound, value-at}
 use Rattle.laws.specs.Extremes.{one_if}
 use Rattle.laws.proofs.Tests.{clash}
+use Rattle.std.specs.Prelude.{Result, Ok, Err, Option, Some, None}
+use Rattle.intake.specs.declared.singles.Taken.{Taken}
 
 -- ---- the first refusal
 
 -- reading i is refused with r, and none below it is
 pub record First (readings : List Reading) (n i : ℕ) (r : Refusal) : Type 0 where
   pub within : i < n
-  pub refused : taken_at readings i ≡ one.Refused r
-  pub before : refusal_in readings i ≡ Accepted
+  pub refused : taken_at readings i ≡ Err r
+  pub before : refusal_in readings i ≡ None
 
 -- a reading that is taken
-pub record Kept (t : Taken) : Type 0 where
+pub record Kept (t : Result Taken Refusal) : Type 0 where
   pub value : Tenths
   pub limit : Bool
-  pub same : t ≡ one.Value value limit
+  pub same : t ≡ Ok value limit
 
-after-accepted : (o : Outcome) (t : Taken) → or_else o (outcome_of t) ≡ Accepted → (o ≡ Accepted) × Kept t
-after-accepted Accepted (one.Value v l) e = (refl, record { value = v; limit = l; same = refl })
-after-accepted Accepted (one.Refused r) e = clash cc
-after-accepted (Refused r) t e = clash cc
+after-accepted : (o : Option Refusal) (t : Result Taken Refusal) → or_else o (outcome_of t) ≡ None → (o ≡ None) × Kept t
+after-accepted None (Ok v l) e = (refl, record { value = v; limit = l; same = refl })
+after-accepted None (Err r) e = clash cc
+after-accepted (Some r) t e = clash cc
 
 -- a power of two above bit i leaves it as it is
 lower : (m : ℕ) (b : Bool) (n i : ℕ) → i < n → (m + weight_of b n) / 2 ^ i % 2 ≡ m / 2 ^ i % 2
@@ -73,7 +70,7 @@ top m true n h =
 
 module _ (readings : List Reading) where
   -- nothing is refused: every reading is taken
-  pub all-kept : (n i : ℕ) → i < n → refusal_in readings n ≡ Accepted → Kept (taken_at readings i)
+  pub all-kept : (n i : ℕ) → i < n → refusal_in readings n ≡ None → Kept (taken_at readings i)
   unfolding refusal_in
   all-kept zero i h e = absurd (omega arith)
   all-kept (suc n) i h e =
@@ -91,17 +88,17 @@ module _ (readings : List Reading) where
     pub first : First readings n at r
 
   -- the refusal given is that of the lowest reading that is refused
-  pub first-refusal : (n : ℕ) (r : Refusal) → refusal_in readings n ≡ Refused r → Met n r
+  pub first-refusal : (n : ℕ) (r : Refusal) → refusal_in readings n ≡ Some r → Met n r
   unfolding refusal_in
   first-refusal zero r e = clash cc
   first-refusal (suc n) r e = go (refusal_in readings n) (taken_at readings n) refl refl e (λ f. first-refusal n r f)
     where
-      go : (o : Outcome) (t : Taken) → refusal_in readings n ≡ o → taken_at readings n ≡ t → or_else o (outcome_of t) ≡ Refused r
-          → (refusal_in readings n ≡ Refused r → Met n r) → Met (suc n) r
-      go Accepted (one.Value v l) f g h below = clash cc
-      go Accepted (one.Refused q) f g h below =
+      go : (o : Option Refusal) (t : Result Taken Refusal) → refusal_in readings n ≡ o → taken_at readings n ≡ t → or_else o (outcome_of t) ≡ Some r
+          → (refusal_in readings n ≡ Some r → Met n r) → Met (suc n) r
+      go None (Ok v l) f g h below = clash cc
+      go None (Err q) f g h below =
           record { at = n; first = record { within = omega arith; refused = cc; before = f } }
-      go (Refused q) t f g h below =
+      go (Some q) t f g h below =
           let m = below (f ∙ h) in
           record {
             at = m.at;
@@ -113,7 +110,7 @@ module _ (readings : List Reading) where
   pub value-kept : (n k i : ℕ) → i < n → n ≤ k → get_or (values_in readings n k) i nought ≡ value_of (taken_at readings i)
   value-kept n k i h g = value-at readings n k i (omega arith) ∙ rw (lt-ltb i n h)
 
-  pub value-range : (n k i : ℕ) → refusal_in readings n ≡ Accepted → i < n → n ≤ k → in_range (get_or (values_in readings n k) i nought).0 ≡ true
+  pub value-range : (n k i : ℕ) → refusal_in readings n ≡ None → i < n → n ≤ k → in_range (get_or (values_in readings n k) i nought).0 ≡ true
   value-range n k i e h g =
       let t = all-kept n i h e in
       let v : value_of (taken_at readings i) ≡ t.value = ap value_of t.same in
@@ -144,35 +141,35 @@ module _ (readings : List Reading) where
 
 -- ---- for who takes a list: where the outcome is no refusal, the count is right, and the set is that of the readings
 
-pub record Accepts (readings : List Reading) (len bands : ℕ) (r : Intake) : Type 0 where
+pub record Accepts (readings : List Reading) (len bands : ℕ) (r : Result BandSet Refusal) : Type 0 where
   pub count : len ≡ bands
-  pub accepted : refusal_in readings bands ≡ Accepted
+  pub accepted : refusal_in readings bands ≡ None
   pub taken : r.set ≡ set_of readings bands
 
-pub list-accepts : (readings : List Reading) (len bands : ℕ) (r : Intake) → r ≡ list_of readings len bands → r.outcome ≡ Accepted
+pub list-accepts : (readings : List Reading) (len bands : ℕ) (r : Result BandSet Refusal) → r ≡ list_of readings len bands → r.outcome ≡ None
     → Accepts readings len bands r
 unfolding list_of
 list-accepts readings len bands r e f = go (eqb len bands) (refusal_in readings bands) (λ k. eqb-true len bands k) refl e
   where
-    go : (b : Bool) (o : Outcome) → (b ≡ true → len ≡ bands) → refusal_in readings bands ≡ o
+    go : (b : Bool) (o : Option Refusal) → (b ≡ true → len ≡ bands) → refusal_in readings bands ≡ o
         → r ≡ cond b (list_by o readings bands) (refused_list BandCount) → Accepts readings len bands r
-    go true Accepted h g k = record { count = h refl; accepted = g; taken = ap (λ (x : Intake). x.set) k }
-    go true (Refused q) h g k = clash (cc (ap (λ (x : Intake). x.outcome) k))
-    go false o h g k = clash (cc (ap (λ (x : Intake). x.outcome) k))
+    go true None h g k = record { count = h refl; accepted = g; taken = ap (λ (x : Result BandSet Refusal). x.set) k }
+    go true (Some q) h g k = clash (cc (ap (λ (x : Result BandSet Refusal). x.outcome) k))
+    go false o h g k = clash (cc (ap (λ (x : Result BandSet Refusal). x.outcome) k))
 
 -- each band of an accepted list is in range
-pub list-range : (readings : List Reading) (len bands : ℕ) (r : Intake) (i : ℕ) → Accepts readings len bands r → i < bands → bands ≤ 16
+pub list-range : (readings : List Reading) (len bands : ℕ) (r : Result BandSet Refusal) (i : ℕ) → Accepts readings len bands r → i < bands → bands ≤ 16
     → in_range (band_of r.set i) ≡ true
 list-range readings len bands r i a h g =
     ap (λ (s : BandSet). in_range (band_of s i)) a.taken ∙ value-range readings bands 16 i a.accepted h g
 
 -- where it is a refusal, nothing else is told
-pub list-refuses : (readings : List Reading) (len bands : ℕ) (r : Intake) (q : Refusal) → r ≡ list_of readings len bands → r.outcome ≡ Refused q
+pub list-refuses : (readings : List Reading) (len bands : ℕ) (r : Result BandSet Refusal) (q : Refusal) → r ≡ list_of readings len bands → r.outcome ≡ Some q
     → r ≡ refused_list q
 unfolding list_of
 list-refuses readings len bands r q e f = go (eqb len bands) (refusal_in readings bands) e
   where
-    go : (b : Bool) (o : Outcome) → r ≡ cond b (list_by o readings bands) (refused_list BandCount) → r ≡ refused_list q
-    go true Accepted k = clash (cc (ap (λ (x : Intake). x.outcome) k))
-    go true (Refused p) k = k ∙ ap refused_list (cc (ap (λ (x : Intake). x.outcome) k))
-    go false o k = k ∙ ap refused_list (cc (ap (λ (x : Intake). x.outcome) k))
+    go : (b : Bool) (o : Option Refusal) → r ≡ cond b (list_by o readings bands) (refused_list BandCount) → r ≡ refused_list q
+    go true None k = clash (cc (ap (λ (x : Result BandSet Refusal). x.outcome) k))
+    go true (Some p) k = k ∙ ap refused_list (cc (ap (λ (x : Result BandSet Refusal). x.outcome) k))
+    go false o k = k ∙ ap refused_list (cc (ap (λ (x : Result BandSet Refusal). x.outcome) k))

@@ -13,10 +13,10 @@ use Rattle.laws.specs.Lists.{listed}
 use Rattle.quantity.specs.Refusals.{or_else}
 use Rattle.quantity.specs.declared.quantities.Reading.{Reading}
 use Rattle.quantity.specs.declared.refusals.Refusal.TheVariants.{BandCount}
-use Rattle.quantity.specs.declared.refusals.Outcome.{Outcome}
-use Rattle.quantity.specs.declared.refusals.Outcome.TheVariants.{Accepted, Refused}
-use Rattle.intake.specs.declared.singles.Taken.{Taken}
 use Rattle.measurement.specs.Lists.{taken_at, value_of, limit_of, outcome_of, refusal_in, weight_of, marks_in, value_in, values_in, refused_list, all_by, all_of, list_by, list_of}
+use Rattle.std.specs.Prelude.{Result, Option, Some, None}
+use Rattle.quantity.specs.declared.refusals.Refusal.{Refusal}
+use Rattle.intake.specs.declared.singles.Taken.{Taken}
 
 module _ (a b : List Reading) where
   -- the first n readings of both are taken alike
@@ -27,13 +27,13 @@ module _ (a b : List Reading) where
   unfolding refusal_in
   refusal-same zero h = refl
   refusal-same (suc n) h =
-      ap₂ (λ (o : Outcome) (t : Taken). or_else o (outcome_of t)) (refusal-same n (λ i q. h i (omega arith))) (h n (le_refl (suc n)))
+      ap₂ (λ (o : Option Refusal) (t : Result Taken Refusal). or_else o (outcome_of t)) (refusal-same n (λ i q. h i (omega arith))) (h n (le_refl (suc n)))
 
   marks-same : (n : ℕ) → Alike n → marks_in a n ≡ marks_in b n
   unfolding marks_in
   marks-same zero h = refl
   marks-same (suc n) h =
-      ap₂ (λ (m : ℕ) (t : Taken). m + weight_of (limit_of t) n) (marks-same n (λ i q. h i (omega arith))) (h n (le_refl (suc n)))
+      ap₂ (λ (m : ℕ) (t : Result Taken Refusal). m + weight_of (limit_of t) n) (marks-same n (λ i q. h i (omega arith))) (h n (le_refl (suc n)))
 
   value_same : (n i : ℕ) → Alike n → value_in a n i ≡ value_in b n i
   value_same n i h = go (dec_lt i n)
@@ -48,18 +48,18 @@ module _ (a b : List Reading) where
 
   pub all_past : (n : ℕ) → Alike n → all_of a n ≡ all_of b n
   unfolding all_of
-  all_past n h = ap (λ (o : Outcome). all_by o a n) (refusal-same n h) ∙ go (refusal_in b n)
+  all_past n h = ap (λ (o : Option Refusal). all_by o a n) (refusal-same n h) ∙ go (refusal_in b n)
     where
-      go : (o : Outcome) → all_by o a n ≡ all_by o b n
-      go Accepted = λ j. record { outcome = Accepted; values = values_same n 48 h j; marks = marks-same n h j }
-      go (Refused r) = refl
+      go : (o : Option Refusal) → all_by o a n ≡ all_by o b n
+      go None = λ j. record { outcome = None; values = values_same n 48 h j; marks = marks-same n h j }
+      go (Some r) = refl
 
   list-alike : (n : ℕ) → Alike n → list_by (refusal_in a n) a n ≡ list_by (refusal_in b n) b n
-  list-alike n h = ap (λ (o : Outcome). list_by o a n) (refusal-same n h) ∙ go (refusal_in b n)
+  list-alike n h = ap (λ (o : Option Refusal). list_by o a n) (refusal-same n h) ∙ go (refusal_in b n)
     where
-      go : (o : Outcome) → list_by o a n ≡ list_by o b n
-      go Accepted = λ j. record { outcome = Accepted; set = record { values = values_same n 16 h j; marks = marks-same n h j; len = n } }
-      go (Refused r) = refl
+      go : (o : Option Refusal) → list_by o a n ≡ list_by o b n
+      go None = λ j. record { outcome = None; set = record { values = values_same n 16 h j; marks = marks-same n h j; len = n } }
+      go (Some r) = refl
 
   pub list-past : (len bands : ℕ) → Alike len → list_of a len bands ≡ list_of b len bands
   unfolding list_of

@@ -19,14 +19,12 @@ use Rattle.quantity.specs.declared.quantities.Reading.{Reading}
 use Rattle.quantity.specs.declared.refusals.Refusal.{Refusal}
 use Rattle.quantity.specs.declared.refusals.Refusal.TheVariants.{BandCount}
 use Rattle.quantity.specs.Refusals.{or_else}
-use Rattle.intake.specs.declared.singles.Taken.{Taken}
-use Rattle.intake.specs.declared.singles.Taken.TheVariants as one
-use Rattle.quantity.specs.declared.refusals.Outcome.{Outcome}
-use Rattle.quantity.specs.declared.refusals.Outcome.TheVariants.{Accepted, Refused}
 use Rattle.measurement.specs.declared.lists.Readings.{Readings}
-use Rattle.measurement.specs.declared.lists.Intake.{Intake}
 use Rattle.measurement.specs.Lists.{taken_at, value_of, limit_of, outcome_of, refusal_in, weight_of, marks_in, value_in, values_in, refused_all, refused_list, all_by, all_of, list_by, list_of}
 use Rattle.quantity.specs.Quantities.{nought}
+use Rattle.std.specs.Prelude.{Result, Ok, Err, Option, Some, None}
+use Rattle.quantity.specs.declared.quantities.BandSet.{BandSet}
+use Rattle.intake.specs.declared.singles.Taken.{Taken}
 
 -- a mark is at most its bit
 pub weight-most : (b : Bool) (n : ℕ) → weight_of b n ≤ 2 ^ n
@@ -108,18 +106,18 @@ module _ (readings : List Reading) where
   unfolding refusal_in
   refusal-more n = ap (refusal_in readings) (add-one n)
 
-  pub refusal-stays : (n k : ℕ) (r : Refusal) → refusal_in readings n ≡ Refused r → refusal_in readings (k + n) ≡ Refused r
+  pub refusal-stays : (n k : ℕ) (r : Refusal) → refusal_in readings n ≡ Some r → refusal_in readings (k + n) ≡ Some r
   unfolding refusal_in
   refusal-stays n zero r e = ap (refusal_in readings) (zero-add n) ∙ e
   refusal-stays n (suc k) r e =
       let q : suc k + n ≡ suc (k + n) = omega arith in
-      ap (refusal_in readings) q ∙ ap (λ (o : Outcome). or_else o (outcome_of (taken_at readings (k + n)))) (refusal-stays n k r e)
+      ap (refusal_in readings) q ∙ ap (λ (o : Option Refusal). or_else o (outcome_of (taken_at readings (k + n)))) (refusal-stays n k r e)
 
 -- ---- the loop over the readings: so far none was refused
 
 pub record Taking (readings : List Reading) (count : ℕ) (values : List Tenths) (marks i : ℕ) : Type 0 where
   pub within : i ≤ count
-  pub accepted : refusal_in readings i ≡ Accepted
+  pub accepted : refusal_in readings i ≡ None
   pub held : values ≡ values_in readings i 48
   pub marked : marks ≡ marks_in readings i
 
@@ -137,44 +135,44 @@ weight-small false i h = omega arith
 
 -- a reading that is taken
 pub taking-more : (readings : List Reading) (count : ℕ) (values : List Tenths) (marks i : ℕ) (v : Tenths) (limit : Bool) (w : ℕ)
-    → count ≤ 48 → i < count → Taking readings count values marks i → taken_at readings i ≡ one.Value v limit → w ≡ weight_of limit i
+    → count ≤ 48 → i < count → Taking readings count values marks i → taken_at readings i ≡ Ok v limit → w ≡ weight_of limit i
     → Taking readings count (set values i v) (marks + w) (i + 1)
 taking-more readings count values marks i v limit w h g t e f = record {
   within = omega arith;
   accepted =
       refusal-more readings i
-      ∙ ap (λ (o : Outcome). or_else o (outcome_of (taken_at readings i))) t.accepted
+      ∙ ap (λ (o : Option Refusal). or_else o (outcome_of (taken_at readings i))) t.accepted
       ∙ ap outcome_of e;
   held =
       ap (λ (l : List Tenths). set l i v) t.held
-      ∙ ap (λ (x : Taken). set (values_in readings i 48) i (value_of x)) (sym e)
+      ∙ ap (λ (x : Result Taken Refusal). set (values_in readings i 48) i (value_of x)) (sym e)
       ∙ values-more readings i 48 (omega arith);
-  marked = omega (arith, t.marked, f, marks-more readings i, ap (λ (x : Taken). weight_of (limit_of x) i) e);
+  marked = omega (arith, t.marked, f, marks-more readings i, ap (λ (x : Result Taken Refusal). weight_of (limit_of x) i) e);
 }
 
 -- all are taken
 pub taken-all : (readings : List Reading) (count : ℕ) (values : List Tenths) (marks i : ℕ) → count ≤ i → Taking readings count values marks i
-    → ◌≡◌ {A = Readings} (record { outcome = Accepted; values = values; marks = marks }) (all_of readings count)
+    → ◌≡◌ {A = Readings} (record { outcome = None; values = values; marks = marks }) (all_of readings count)
 unfolding all_of
 taken-all readings count values marks i h t =
     let e : i ≡ count = omega (arith, t.within) in
-    ap (λ (l : List Tenths). record { outcome = Accepted; values = l; marks = marks }) t.held
-    ∙ ap (λ (m : ℕ). record { outcome = Accepted; values = values_in readings i 48; marks = m }) t.marked
-    ∙ ap (λ (o : Outcome). all_by o readings i) (sym t.accepted)
+    ap (λ (l : List Tenths). record { outcome = None; values = l; marks = marks }) t.held
+    ∙ ap (λ (m : ℕ). record { outcome = None; values = values_in readings i 48; marks = m }) t.marked
+    ∙ ap (λ (o : Option Refusal). all_by o readings i) (sym t.accepted)
     ∙ ap (all_of readings) e
 
 -- one is refused
 pub refused-at : (readings : List Reading) (count : ℕ) (values : List Tenths) (marks i : ℕ) (r : Refusal) → i < count
-    → Taking readings count values marks i → taken_at readings i ≡ one.Refused r → refusal_in readings count ≡ Refused r
+    → Taking readings count values marks i → taken_at readings i ≡ Err r → refusal_in readings count ≡ Some r
 refused-at readings count values marks i r h t e =
     let q : count - (i + 1) + (i + 1) ≡ count = omega arith in
     ap (refusal_in readings) (sym q)
     ∙ refusal-stays readings (i + 1) (count - (i + 1)) r
-    (refusal-more readings i ∙ ap (λ (o : Outcome). or_else o (outcome_of (taken_at readings i))) t.accepted ∙ ap outcome_of e)
+    (refusal-more readings i ∙ ap (λ (o : Option Refusal). or_else o (outcome_of (taken_at readings i))) t.accepted ∙ ap outcome_of e)
 
-pub refused_all_lem : (readings : List Reading) (count : ℕ) (r : Refusal) → refusal_in readings count ≡ Refused r → refused_all r ≡ all_of readings count
+pub refused_all_lem : (readings : List Reading) (count : ℕ) (r : Refusal) → refusal_in readings count ≡ Some r → refused_all r ≡ all_of readings count
 unfolding all_of
-refused_all_lem readings count r e = ap (λ (o : Outcome). all_by o readings count) (sym e)
+refused_all_lem readings count r e = ap (λ (o : Option Refusal). all_by o readings count) (sym e)
 
 -- ---- the copy of the lowest sixteen
 
@@ -198,32 +196,32 @@ pub outcome-is : (readings : List Reading) (n : ℕ) (all : Readings) → all �
 unfolding all_of
 outcome-is readings n all e = ap (λ (a : Readings). a.outcome) e ∙ go (refusal_in readings n)
   where
-    go : (o : Outcome) → (all_by o readings n).outcome ≡ o
-    go Accepted = refl
-    go (Refused r) = refl
+    go : (o : Option Refusal) → (all_by o readings n).outcome ≡ o
+    go None = refl
+    go (Some r) = refl
 
 pub list-refused : (readings : List Reading) (len bands : ℕ) (all : Readings) (r : Refusal) → len ≡ bands → all ≡ all_of readings bands
-    → all.outcome ≡ Refused r → refused_list r ≡ list_of readings len bands
+    → all.outcome ≡ Some r → refused_list r ≡ list_of readings len bands
 list-refused readings len bands all r e f g =
-    ap (λ (o : Outcome). list_by o readings bands) (sym g ∙ outcome-is readings bands all f) ∙ list_same readings len bands e
+    ap (λ (o : Option Refusal). list_by o readings bands) (sym g ∙ outcome-is readings bands all f) ∙ list_same readings len bands e
 
 -- what was taken, where nothing was refused
-pub accepted-is : (readings : List Reading) (n : ℕ) (all : Readings) → all ≡ all_of readings n → all.outcome ≡ Accepted → all ≡ all_by Accepted readings n
+pub accepted-is : (readings : List Reading) (n : ℕ) (all : Readings) → all ≡ all_of readings n → all.outcome ≡ None → all ≡ all_by None readings n
 unfolding all_of
-accepted-is readings n all f g = f ∙ ap (λ (o : Outcome). all_by o readings n) (sym (outcome-is readings n all f) ∙ g)
+accepted-is readings n all f g = f ∙ ap (λ (o : Option Refusal). all_by o readings n) (sym (outcome-is readings n all f) ∙ g)
 
-pub list-marks : (readings : List Reading) (n : ℕ) (all : Readings) → n ≤ 16 → all ≡ all_of readings n → all.outcome ≡ Accepted → all.marks < 65536
+pub list-marks : (readings : List Reading) (n : ℕ) (all : Readings) → n ≤ 16 → all ≡ all_of readings n → all.outcome ≡ None → all.marks < 65536
 list-marks readings n all h f g =
     omega (arith, ap (λ (a : Readings). a.marks) (accepted-is readings n all f g), marks-bound readings n, pow_mono {i = n} {j = 16} h)
 
 pub list-accepted : (readings : List Reading) (len bands : ℕ) (all : Readings) (values : List Tenths) → len ≡ bands → all ≡ all_of readings bands
-    → all.outcome ≡ Accepted → values ≡ take 16 all.values
-    → ◌≡◌ {A = Intake} (record { outcome = Accepted; set = record { values = values; marks = all.marks; len = bands } }) (list_of readings len bands)
+    → all.outcome ≡ None → values ≡ take 16 all.values
+    → ◌≡◌ {A = (Result BandSet Refusal)} (record { outcome = None; set = record { values = values; marks = all.marks; len = bands } }) (list_of readings len bands)
 list-accepted readings len bands all values e f g h =
-    let a : all ≡ all_by Accepted readings bands = accepted-is readings bands all f g in
+    let a : all ≡ all_by None readings bands = accepted-is readings bands all f g in
     let v : values ≡ values_in readings bands 16 =
     h ∙ ap (λ (x : Readings). take 16 x.values) a ∙ values-head readings bands 48 16 (omega arith) in
-    ap (λ (l : List Tenths). record { outcome = Accepted; set = record { values = l; marks = all.marks; len = bands } }) v
-    ∙ ap (λ (x : Readings). record { outcome = Accepted; set = record { values = values_in readings bands 16; marks = x.marks; len = bands } }) a
-    ∙ ap (λ (o : Outcome). list_by o readings bands) (sym g ∙ outcome-is readings bands all f)
+    ap (λ (l : List Tenths). record { outcome = None; set = record { values = l; marks = all.marks; len = bands } }) v
+    ∙ ap (λ (x : Readings). record { outcome = None; set = record { values = values_in readings bands 16; marks = x.marks; len = bands } }) a
+    ∙ ap (λ (o : Option Refusal). list_by o readings bands) (sym g ∙ outcome-is readings bands all f)
     ∙ list_same readings len bands e

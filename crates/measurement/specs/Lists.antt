@@ -1,5 +1,5 @@
 -- Document 01, "Refusal numbers": "bands from the lowest, each 3, 2, 4"; and the set that a list of readings becomes.
-use Rattle.std.specs.Prelude.{Bool, true, false, cond, List, [], ◌∷◌, ◌++◌, ℕ, zero, suc, ◌+◌, ◌^◌, ltb, eqb, ℤ, pos, get_or, take, replicate}
+use Rattle.std.specs.Prelude.{Bool, true, false, cond, List, [], ◌∷◌, ◌++◌, ℕ, zero, suc, ◌+◌, ◌^◌, ltb, eqb, ℤ, pos, get_or, take, Option, None, Some, Result, Ok, Err}
 use Rattle.std.specs.Float.{nan}
 use Rattle.laws.specs.Lists.{listed}
 use Rattle.quantity.specs.declared.quantities.Tenths.{Tenths}
@@ -13,35 +13,31 @@ use Rattle.quantity.specs.Refusals.{number_of, or_else}
 use Rattle.quantity.specs.Answers.{Answer}
 use Rattle.quantity.specs.Answers.Answer.{refused, numbers}
 use Rattle.intake.specs.declared.singles.Taken.{Taken}
-use Rattle.intake.specs.declared.singles.Taken.TheVariants as one
-use Rattle.quantity.specs.declared.refusals.Outcome.{Outcome}
-use Rattle.quantity.specs.declared.refusals.Outcome.TheVariants.{Accepted, Refused}
 use Rattle.measurement.specs.declared.lists.Readings.{Readings}
-use Rattle.measurement.specs.declared.lists.Intake.{Intake}
 use Rattle.intake.specs.Taken.{taken_of}
 
 -- what becomes of reading i, counted from 0 (past the end of a list `get_or` gives its default, which no call asks for)
-abbrev pub taken_at : List Reading → ℕ → Taken
+abbrev pub taken_at : List Reading → ℕ → Result Taken Refusal
 taken_at readings i = taken_of (get_or readings i (Level nan))
 
 -- the value and the mark of a reading that was taken
-abbrev pub value_of : Taken → Tenths
-value_of (one.Value t limit) = t
-value_of (one.Refused r) = nought
+abbrev pub value_of : Result Taken Refusal → Tenths
+value_of (Ok x) = x.value
+value_of (Err r) = nought
 
-abbrev pub limit_of : Taken → Bool
-limit_of (one.Value t limit) = limit
-limit_of (one.Refused r) = false
+abbrev pub limit_of : Result Taken Refusal → Bool
+limit_of (Ok x) = x.limit
+limit_of (Err r) = false
 
 -- the refusal that a reading gives, if any
-abbrev pub outcome_of : Taken → Outcome
-outcome_of (one.Value t limit) = Accepted
-outcome_of (one.Refused r) = Refused r
+abbrev pub fault_of : Result Taken Refusal → Option Refusal
+fault_of (Ok x) = None
+fault_of (Err r) = Some r
 
 -- the first refusal among the first n readings, from the lowest
-unfoldable pub refusal_in : List Reading → ℕ → Outcome
-refusal_in readings zero = Accepted
-refusal_in readings (suc n) = or_else (refusal_in readings n) (outcome_of (taken_at readings n))
+unfoldable pub refusal_in : List Reading → ℕ → Option Refusal
+refusal_in readings zero = None
+refusal_in readings (suc n) = or_else (refusal_in readings n) (fault_of (taken_at readings n))
 
 -- what a limit value adds to the marks at place i: bit i
 abbrev pub weight_of : Bool → ℕ → ℕ
@@ -61,19 +57,12 @@ unfoldable pub values_in : List Reading → ℕ → ℕ → List Tenths
 unfolding listed
 values_in readings n k = listed (value_in readings n) k 0
 
--- "A refusal returns only its number": nothing else is told
-abbrev pub refused_all : Refusal → Readings
-refused_all r = record { outcome = Refused r; values = replicate 48 nought; marks = 0 }
+-- the first n readings. "A refusal returns only its number": nothing else is told
+abbrev pub all_by : Option Refusal → List Reading → ℕ → Result Readings Refusal
+all_by None readings n = Ok (record { values = values_in readings n 48; marks = marks_in readings n })
+all_by (Some r) readings n = Err r
 
-abbrev pub refused_list : Refusal → Intake
-refused_list r = record { outcome = Refused r; set = record { values = replicate 16 nought; marks = 0; len = 0 } }
-
--- the first n readings
-abbrev pub all_by : Outcome → List Reading → ℕ → Readings
-all_by Accepted readings n = record { outcome = Accepted; values = values_in readings n 48; marks = marks_in readings n }
-all_by (Refused r) readings n = refused_all r
-
-unfoldable pub all_of : List Reading → ℕ → Readings
+unfoldable pub all_of : List Reading → ℕ → Result Readings Refusal
 all_of readings n = all_by (refusal_in readings n) readings n
 
 -- the set of the first n readings: n values, and zeros past them
@@ -81,12 +70,12 @@ abbrev pub set_of : List Reading → ℕ → BandSet
 set_of readings n = record { values = values_in readings n 16; marks = marks_in readings n; len = n }
 
 -- a band list for a kind of `bands` bands: "1: number of bands is not the kind's", then the bands from the lowest
-abbrev pub list_by : Outcome → List Reading → ℕ → Intake
-list_by Accepted readings n = record { outcome = Accepted; set = set_of readings n }
-list_by (Refused r) readings n = refused_list r
+abbrev pub list_by : Option Refusal → List Reading → ℕ → Result BandSet Refusal
+list_by None readings n = Ok (set_of readings n)
+list_by (Some r) readings n = Err r
 
-unfoldable pub list_of : List Reading → ℕ → ℕ → Intake
-list_of readings len bands = cond (eqb len bands) (list_by (refusal_in readings bands) readings bands) (refused_list BandCount)
+unfoldable pub list_of : List Reading → ℕ → ℕ → Result BandSet Refusal
+list_of readings len bands = cond (eqb len bands) (list_by (refusal_in readings bands) readings bands) (Err BandCount)
 
 -- the lowest sixteen values
 abbrev pub head_of : List Tenths → List Tenths
@@ -96,9 +85,6 @@ head_of values = take 16 values
 unfoldable pub set_numbers : BandSet → ℕ → List ℤ
 set_numbers s n = listed (band_of s) n 0 ++ (pos s.marks ∷ [])
 
-abbrev pub set_answer : BandSet → ℕ → Outcome → Answer ℤ
-set_answer s n Accepted = numbers (set_numbers s n)
-set_answer s n (Refused r) = refused (number_of r)
-
-abbrev pub intake_answer : Intake → ℕ → Answer ℤ
-intake_answer i n = set_answer i.set n i.outcome
+abbrev pub intake_answer : Result BandSet Refusal → ℕ → Answer ℤ
+intake_answer (Ok s) n = numbers (set_numbers s n)
+intake_answer (Err r) n = refused (number_of r)

@@ -6,4 +6,4 @@
 
 mod lists;
 
-pub use lists::{Intake, Readings, refused_list, take_all, take_list};
+pub use lists::{Readings, take_all, take_list};

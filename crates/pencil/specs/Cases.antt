@@ -1,21 +1,18 @@
 -- Document 01, "Pencil checks": the cases marked P, as one table over the definitions, with the ties of document 02, request (ii).
 -- Each row is a claim that is computed.
-use Rattle.std.specs.Prelude.{false, List, [], ◌∷◌, ◌++◌, map, ◌≡◌, ℕ, ◌-◌, ℤ, pos, neg_ℤ, get_or, length, replicate}
+use Rattle.std.specs.Prelude.{false, List, [], ◌∷◌, ◌++◌, map, ◌≡◌, ℕ, ◌-◌, ℤ, pos, neg_ℤ, get_or, length, replicate, Option, None, Some, Ok, Err}
 use Rattle.quantity.specs.declared.refusals.Refusal.{Refusal}
 use Rattle.quantity.specs.declared.refusals.Refusal.TheVariants.{BandCount}
 use Rattle.quantity.specs.declared.quantities.BandSet.{BandSet}
+use Rattle.quantity.specs.declared.quantities.Decibels.{Decibels}
 use Rattle.energy.specs.Corrections.{c, k}
 use Rattle.kinds.specs.declared.kinds.Kind.{Kind}
 use Rattle.kinds.specs.declared.kinds.Kind.TheVariants.{A3, A1, I3}
 use Rattle.kinds.specs.Kinds.{C, Ctr}
-use Rattle.rating.specs.declared.sheets.Term.{Term}
-use Rattle.rating.specs.declared.sheets.Term.TheVariants.{Given, Absent}
-use Rattle.rating.specs.declared.sheets.Rated.TheVariants.{Rating, Refused}
 use Rattle.rating.specs.Curve.{total, rating_of}
 use Rattle.rating.specs.Terms.{airborne_term, impact_term}
 use Rattle.rating.specs.Sheets.{rated_of, decibels}
 use Rattle.lift.specs.Reach.{lift_list}
-use Rattle.products.specs.declared.covers.Cover.TheVariants.{Improvement}
 use Rattle.products.specs.Covers.{cover_of}
 use Rattle.quantity.specs.Quantities.{tenths, nought, half_even}
 
@@ -77,7 +74,7 @@ rumbling = pos 680 ∷ pos 660 ∷ pos 660 ∷ pos 300 ∷ pos 300 ∷ pos 300 �
 -- one pencil check
 pub data Case : Type 0 where
   -- a set of a kind has this sheet: rating, first term, second term, count of shifts, no mark
-  rates : Kind → Bands → ℤ → ℤ → Term → ℕ → Case
+  rates : Kind → Bands → ℤ → ℤ → Option Decibels → ℕ → Case
   -- a set of a kind is refused
   refuses : Kind → Bands → Refusal → Case
   -- a set's rating alone
@@ -99,12 +96,12 @@ pub data Case : Type 0 where
 
 -- what a check claims
 abbrev pub Claim : Case → Type 0
-Claim (rates k x r t u s) = rated_of k (set_of x) ≡ Rating (record { rating = decibels r; first = decibels t; second = u; shifts = s; limit = false })
-Claim (refuses k x r) = rated_of k (set_of x) ≡ Refused r
+Claim (rates k x r t u s) = rated_of k (set_of x) ≡ Ok (record { rating = decibels r; first = decibels t; second = u; shifts = s; limit = false })
+Claim (refuses k x r) = rated_of k (set_of x) ≡ Err r
 Claim (rating k x r) = rating_of k (at x) ≡ r
 Claim (totals k x p t) = total k (at x) p ≡ t
 Claim (lists k x t ms) = lift_list k (at x) t ≡ ms
-Claim (improves x r t) = cover_of (set_of x) ≡ Improvement (decibels r) (decibels t) false
+Claim (improves x r t) = cover_of (set_of x) ≡ Ok (record { improvement = decibels r; term = decibels t; limit = false })
 Claim (rounds t r) = half_even t ≡ r
 Claim (weighs k x L t) = airborne_term k (at x) L ≡ t
 Claim (sums k x t) = impact_term k (at x) ≡ t
@@ -118,9 +115,9 @@ All (x ∷ xs) = Claim x × All xs
 unfoldable pub table : List Case
 table =
     -- the four lines of the whole example
-    rates A3 fifties (pos 50) (pos 0) (Given (decibels (pos 0))) 5 ∷
-    rates A1 octaves (pos 42) (neg_ℤ (pos 2)) (Given (decibels (neg_ℤ (pos 6)))) 0 ∷
-    rates I3 floor (pos 78) (neg_ℤ (pos 10)) Absent 13 ∷
+    rates A3 fifties (pos 50) (pos 0) (Some (decibels (pos 0))) 5 ∷
+    rates A1 octaves (pos 42) (neg_ℤ (pos 2)) (Some (decibels (neg_ℤ (pos 6)))) 0 ∷
+    rates I3 floor (pos 78) (neg_ℤ (pos 10)) None 13 ∷
     refuses A1 four BandCount ∷
     -- K + 50 dB rates 52, with a total of exactly 320; target 53 lists nothing
     rating A3 even (pos 52) ∷
@@ -144,11 +141,11 @@ table =
     rounds (neg_ℤ (pos 25)) (neg_ℤ (pos 2)) ∷
     -- and where they stand: Ctr of 0.5, C of -1.5, an impact term of 2.5
     weighs A3 last_weak (Ctr A3) (pos 5) ∷
-    rates A3 last_weak (pos 49) (neg_ℤ (pos 1)) (Given (decibels (pos 0))) 6 ∷
+    rates A3 last_weak (pos 49) (neg_ℤ (pos 1)) (Some (decibels (pos 0))) 6 ∷
     weighs A1 lowest_weak (C A1) (neg_ℤ (pos 15)) ∷
-    rates A1 lowest_weak (pos 51) (neg_ℤ (pos 2)) (Given (decibels (neg_ℤ (pos 4)))) 2 ∷
+    rates A1 lowest_weak (pos 51) (neg_ℤ (pos 2)) (Some (decibels (neg_ℤ (pos 4)))) 2 ∷
     sums I3 rumbling (pos 25) ∷
-    rates I3 rumbling (pos 54) (pos 2) Absent 23 ∷
+    rates I3 rumbling (pos 54) (pos 2) None 23 ∷
     -- corrections
     background 60 13 ∷
     background 61 12 ∷

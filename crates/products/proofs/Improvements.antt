@@ -20,12 +20,11 @@ use Rattle.curve.specs.Bands.{accepted, limited}
 use Rattle.laws.proofs.Counted.{Up}
 use Rattle.kinds.specs.declared.kinds.Kind.TheVariants.{I3}
 use Rattle.rating.specs.declared.sheets.Sheet.{Sheet}
-use Rattle.rating.specs.declared.sheets.Rated.TheVariants as rated
 use Rattle.rating.specs.Sheets.{sheet_of, rated_of}
-use Rattle.products.specs.declared.covers.Cover.{Cover}
-use Rattle.products.specs.declared.covers.Cover.TheVariants.{Refused}
 use Rattle.products.specs.Covers.{floor, floor_at, derived_set, improvement_of, cover_of}
 use Rattle.rating.proofs.Small.{RatedBy}
+use Rattle.std.specs.Prelude.{Result, Ok, Err}
+use Rattle.products.specs.declared.covers.Cover.{Cover}
 
 -- the table of the code
 unfoldable pub floors : List ℕ
@@ -53,16 +52,16 @@ unfolding derived_set
 derived-all s values e = ap (λ (l : List Tenths). record { values = l; marks = s.marks; len = 16 }) e
 
 -- ---- the ways out
-pub cover-count : (s : BandSet) → (s.len ≡ 16 → ⊥) → Refused BandCount ≡ cover_of s
+pub cover-count : (s : BandSet) → (s.len ≡ 16 → ⊥) → Err BandCount ≡ cover_of s
 unfolding cover_of
 cover-count s d = rw (ne_eqb s.len 16 d) refl
 
-pub cover-range : (s : BandSet) → s.len ≡ 16 → accepted s 16 ≡ false → Refused BandRange ≡ cover_of s
+pub cover-range : (s : BandSet) → s.len ≡ 16 → accepted s 16 ≡ false → Err BandRange ≡ cover_of s
 unfolding cover_of
 cover-range s e f = rw (eq-eqb s.len 16 e, f) refl
 
 module _ (s : BandSet) (e : s.len ≡ 16) (acc : accepted s 16 ≡ true) where
-  pub cover-derived : (r : Refusal) → rated_of I3 (derived_set s) ≡ rated.Refused r → Refused DerivedRange ≡ cover_of s
+  pub cover-derived : (r : Refusal) → rated_of I3 (derived_set s) ≡ Err r → Err DerivedRange ≡ cover_of s
   unfolding cover_of
   cover-derived r f = rw (eq-eqb s.len 16 e, acc, f) refl
 
@@ -71,7 +70,7 @@ module _ (s : BandSet) (e : s.len ≡ 16) (acc : accepted s 16 ≡ true) where
   unfolding sheet_of limited derived_set
   limit_is sheet f = ap (λ (t : Sheet). t.limit) f
 
-  pub cover-made : (sheet : Sheet) (x : Cover) → rated_of I3 (derived_set s) ≡ rated.Rating sheet → RatedBy I3 (derived_set s) sheet
+  pub cover-made : (sheet : Sheet) (x : Result Cover Refusal) → rated_of I3 (derived_set s) ≡ Ok sheet → RatedBy I3 (derived_set s) sheet
       → x ≡ improvement_of sheet sheet.limit → x ≡ cover_of s
   unfolding cover_of
   cover-made sheet x f r g = rw (eq-eqb s.len 16 e, acc, f) (g ∙ ap (improvement_of sheet) (limit_is sheet r.same))

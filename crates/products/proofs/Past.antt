@@ -13,19 +13,18 @@ use Rattle.quantity.specs.declared.quantities.Tenths.{Tenths}
 use Rattle.quantity.specs.declared.quantities.BandSet.{BandSet}
 use Rattle.quantity.specs.declared.quantities.Reading.{Reading}
 use Rattle.quantity.specs.declared.refusals.Refusal.TheVariants.{BandCount, BandRange}
-use Rattle.measurement.specs.declared.lists.Intake.{Intake}
 use Rattle.measurement.proofs.Past.{Alike}
 use Rattle.laws.specs.Tests.{bit}
 use Rattle.kinds.specs.declared.kinds.Kind.TheVariants.{I3}
-use Rattle.rating.specs.declared.sheets.Rated.{Rated}
-use Rattle.rating.specs.declared.sheets.Rated.TheVariants as rated
 use Rattle.rating.specs.Sheets.{rated_of}
 use Rattle.rating.proofs.Theorems.{accepted-same, limited-same, Stated, past_by, past-length}
 use Rattle.means.proofs.Past.{specimens-past}
-use Rattle.products.specs.declared.covers.Cover.TheVariants.{Refused}
 use Rattle.products.specs.declared.grades.Side.{Side}
 use Rattle.products.specs.Covers.{floor_at, derived_set, improvement_of, cover_by, cover_of}
 use Rattle.products.specs.Grades.{graded, grades_of}
+use Rattle.std.specs.Prelude.{Result, Ok, Err}
+use Rattle.quantity.specs.declared.refusals.Refusal.{Refusal}
+use Rattle.rating.specs.declared.sheets.Sheet.{Sheet}
 
 derived-at : (s : BandSet) (i : ℕ) → i < 16 → band_of (derived_set s) i ≡ floor_at i -ℤ band_of s i
 unfolding derived_set
@@ -41,23 +40,23 @@ module _ (s t : BandSet) (len : s.len ≡ t.len) (values : (i : ℕ) → i < 16 
     marks = marks;
   })
 
-  by-same : (r : Rated) → cover_by s r ≡ cover_by t r
-  by-same (rated.Rating sheet) = ap (improvement_of sheet) (limited-same s t 16 marks)
-  by-same (rated.Refused r) = refl
+  by-same : (r : Result Sheet Refusal) → cover_by s r ≡ cover_by t r
+  by-same (Ok sheet) = ap (improvement_of sheet) (limited-same s t 16 marks)
+  by-same (Err r) = refl
 
   cover-agreed : cover_of s ≡ cover_of t
   unfolding cover_of
   cover-agreed =
       let c = ap (cover_by s) rated-same ∙ by-same (rated_of I3 (derived_set t)) in
-      λ i. cond (eqb (len i) 16) (cond (accepted-same s t 16 values i) (c i) (Refused BandRange)) (Refused BandCount)
+      λ i. cond (eqb (len i) 16) (cond (accepted-same s t 16 values i) (c i) (Err BandRange)) (Err BandCount)
 
-cover-other : (s : BandSet) → (s.len ≡ 16 → ⊥) → cover_of s ≡ Refused BandCount
+cover-other : (s : BandSet) → (s.len ≡ 16 → ⊥) → cover_of s ≡ Err BandCount
 unfolding cover_of
 cover-other s f = rw (ne_eqb s.len 16 f)
 
 pub cover-past : (s t : BandSet) → Stated s t → cover_of s ≡ cover_of t
-cover-past = past_by cover_of 16 (Refused BandCount) cover-other cover-agreed
+cover-past = past_by cover_of 16 (Err BandCount) cover-other cover-agreed
 
 pub grade-past : (a b : List Reading) (len : ℕ) (side : Side) → Alike a b len → grades_of a len side ≡ grades_of b len side
 unfolding grades_of
-grade-past a b len side h = ap (λ (r : Intake). graded side r.set r.outcome) (specimens-past a b len h)
+grade-past a b len side h = ap (λ (r : Result BandSet Refusal). graded side r.set r.outcome) (specimens-past a b len h)

@@ -7,16 +7,17 @@ ghost use Rattle.rating.specs.Bounds.{SmallSheet};
 ghost use Rattle.products.specs.Covers.{floor_at, derived_set, improvement_of, cover_of};
 
 use curve::levels::all_in_range;
-use kinds::{I3Kind, Kind};
+use kinds::{I3Kind, Kind, RatingKind};
 use quantity::signed::{above, less};
 use quantity::{BandSet, Decibels, Refusal, Tenths};
-use rating::{Rated, Sheet, rate};
+use rating::{Sheet, rate};
 
-// A cover's improvement rating, its term and its mark (at least), or a refusal.
+// A cover's improvement rating, its term and its mark (at least).
 #[derive(Clone, Copy)]
-pub enum Cover {
-    Improvement(Decibels, Decibels, bool),
-    Refused(Refusal),
+pub struct Cover {
+    pub improvement: Decibels,
+    pub term: Decibels,
+    pub limit: bool,
 }
 
 // The reference floor, in tenths.
@@ -39,12 +40,10 @@ fn derived_set(set: BandSet) -> BandSet
     ensures { result ≡ derived_set set }
 {
     let mut values = [Tenths(0); 16];
-    let mut i = 0;
-    while i < I3Kind::BANDS {
+    for i in 0..I3Kind::BANDS {
         let improvement = set.values[i];
         let level = derived(i, improvement);
         values[i] = level;
-        i += 1;
     }
     BandSet {
         values,
@@ -58,29 +57,25 @@ fn improvement(sheet: Sheet) -> Cover
     requires { SmallSheet sheet }
     ensures { result ≡ improvement_of sheet sheet.limit }
 {
-    let rating = sheet.rating;
-    let term = sheet.first;
-    Cover::Improvement(
-        Decibels(78 - rating.0),
-        Decibels(-(term.0 + 10)),
-        sheet.limit,
-    )
+    Cover {
+        improvement: Decibels(78 - sheet.rating.0),
+        term: Decibels(-(sheet.first.0 + 10)),
+        limit: sheet.limit,
+    }
 }
 
 // The improvement of a cover: 1 where it has no sixteen bands, 4 where one is out of range, then 6 where a derived level is.
-pub fn cover_of(set: BandSet) -> Cover
+pub fn cover_of(set: BandSet) -> Result<Cover, Refusal>
     ensures { result ≡ cover_of set }
 {
     if set.len != I3Kind::BANDS {
-        return Cover::Refused(Refusal::BandCount);
+        return Err(Refusal::BandCount);
     }
     if !all_in_range(set, I3Kind::BANDS) {
-        return Cover::Refused(Refusal::BandRange);
+        return Err(Refusal::BandRange);
     }
-    let floor = derived_set(set);
-    let rated = rate(Kind::I3, floor);
-    match rated {
-        Rated::Rating(sheet) => improvement(sheet),
-        Rated::Refused(_) => Cover::Refused(Refusal::DerivedRange),
+    match rate(Kind::I3, derived_set(set)) {
+        Ok(sheet) => Ok(improvement(sheet)),
+        Err(_) => Err(Refusal::DerivedRange),
     }
 }

@@ -6,8 +6,8 @@ ghost use Rattle.products.specs.Grades.{grade_of, deciding_of, sheet_grade, grad
 
 use kinds::Kind;
 use means::specimens;
-use quantity::{Decibels, Outcome, Reading, Refusal};
-use rating::{Rated, Sheet, Term, rate};
+use quantity::{Decibels, Reading, Refusal};
+use rating::{Sheet, rate};
 
 // Where the door or window stands.
 #[derive(Clone, Copy)]
@@ -25,13 +25,6 @@ pub struct Grade {
     pub deciding: Decibels,
     pub grade: u32,
     pub limit: bool,
-}
-
-// A grade, or the refusal that is given instead.
-#[derive(Clone, Copy)]
-pub enum Graded {
-    Given(Grade),
-    Refused(Refusal),
 }
 
 // The grade of a deciding number (004, table 1).
@@ -61,13 +54,10 @@ fn step(deciding: Decibels) -> u32
 }
 
 // The second term; an airborne sheet has one.
-fn second_of(term: Term) -> Decibels
+fn second_of(term: Option<Decibels>) -> Decibels
     ensures { result.0 ≡ term_of term }
 {
-    match term {
-        Term::Given(ctr) => ctr,
-        Term::Absent => Decibels(0),
-    }
+    term.unwrap_or(Decibels(0))
 }
 
 // The deciding number: by Ctr outside, by C inside.
@@ -112,20 +102,10 @@ fn sheet_grade(side: Side, sheet: Sheet) -> Grade
 
 // The grade of three specimens, given as 48 readings one specimen after the other: 12 where `len` is another number, then the
 // refusal of the first reading that is refused.
-pub fn grade_of(readings: [Reading; 48], len: usize, side: Side) -> Graded
+pub fn grade_of(readings: [Reading; 48], len: usize, side: Side) -> Result<Grade, Refusal>
     ensures { result ≡ grades_of readings len side }
 {
-    let taken = specimens(readings, len);
-    let outcome = taken.outcome;
-    match outcome {
-        Outcome::Refused(refusal) => Graded::Refused(refusal),
-        Outcome::Accepted => {
-            let set = taken.set;
-            let rated = rate(Kind::A3, set);
-            match rated {
-                Rated::Rating(sheet) => Graded::Given(sheet_grade(side, sheet)),
-                Rated::Refused(refusal) => Graded::Refused(refusal),
-            }
-        }
-    }
+    let set = specimens(readings, len)?;
+    let sheet = rate(Kind::A3, set)?;
+    Ok(sheet_grade(side, sheet))
 }

@@ -7,4 +7,4 @@ mod covers;
 mod grades;
 
 pub use covers::{Cover, cover_of};
-pub use grades::{Grade, Graded, Side, grade_of};
+pub use grades::{Grade, Side, grade_of};

@@ -1,10 +1,8 @@
 -- Document 01, "Refusal numbers", and those of document 02, request (x), from 16 on: the number of each case, and the first
 -- refusal of two.
-use Rattle.std.specs.Prelude.{ℕ}
+use Rattle.std.specs.Prelude.{ℕ, Option, None, Some}
 use Rattle.quantity.specs.declared.refusals.Refusal.{Refusal}
 use Rattle.quantity.specs.declared.refusals.Refusal.TheVariants.{BandCount, NotFinite, ReadingMissing, BandRange, BackgroundTooNear, DerivedRange, TimeRange, TargetNotBetter, TargetRange, OutputTooSmall, NotARequest, SpecimenCount, PriceRange, OtherBands, RegisterFull, RegisterDamaged}
-use Rattle.quantity.specs.declared.refusals.Outcome.{Outcome}
-use Rattle.quantity.specs.declared.refusals.Outcome.TheVariants.{Accepted, Refused}
 
 abbrev pub number_of : Refusal → ℕ
 number_of BandCount = 1
@@ -24,7 +22,7 @@ number_of OtherBands = 17
 number_of RegisterFull = 18
 number_of RegisterDamaged = 19
 
--- of two outcomes in the order of the tests: a refusal that stands is kept
-abbrev pub or_else : Outcome → Outcome → Outcome
-or_else Accepted o = o
-or_else (Refused r) o = Refused r
+-- of two tests in their order, each with the refusal that it gives, if any: the first that stands is kept
+abbrev pub or_else : Option Refusal → Option Refusal → Option Refusal
+or_else None o = o
+or_else (Some r) o = Some r

@@ -68,12 +68,10 @@ fn shift(buf: &mut [u8], start: usize, end: usize)
     requires { (start ≤ end) × (end ≤ length buf.old) }
     ensures { buf.new ≡ take (end - start) (drop start buf.old) ++ drop (end - start) buf.old }
 {
-    let mut i = start;
     let mut to = 0usize;
-    while i < end {
+    for i in start..end {
         buf[to] = buf[i];
         to += 1;
-        i += 1;
     }
 }
 

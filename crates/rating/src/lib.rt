@@ -6,4 +6,4 @@
 
 mod sheets;
 
-pub use sheets::{Rated, Sheet, SingleNumber, Term, rate, rate_alone, sheet_of};
+pub use sheets::{Sheet, rate, rate_alone, sheet_of};

@@ -1,28 +1,20 @@
 // The sheet of a band set: one path for all kinds, by the numbers of the kind.
 ghost use Rattle.std.specs.Prelude.{◌≡◌, true, ℕ, ◌≤◌, ◌<◌};
 ghost use Rattle.energy.specs.Energies.{u, Summed};
-ghost use Rattle.energy.specs.Tabled.{Scaled, Tabled};
 ghost use Rattle.quantity.specs.Quantities.{half_even, band_of};
 ghost use Rattle.curve.specs.Bands.{accepted};
 ghost use Rattle.curve.specs.Levels.{Count, at};
 ghost use Rattle.kinds.specs.Kinds.{bands_of};
 ghost use Rattle.rating.specs.Found.{SoughtBy, WeighedOf, rating_by, term_by};
 ghost use Rattle.rating.specs.Curve.{rating_of};
-ghost use Rattle.rating.specs.Sheets.{sheet_of, rated_of, outcome_of, single_of};
+ghost use Rattle.rating.specs.Sheets.{sheet_of, rated_of, accept_of, single_of};
 
 use curve::Position;
 use curve::levels::{Accepted, all_in_range, energies, least, plain, settle, sum};
-use energy::{Cell, level, tables};
+use energy::{RatingTables, tables};
 use kinds::{Kind, bands_of, by_curve, by_first, by_second, marked, numbers_of, start_of};
 use quantity::signed::less;
-use quantity::{BandSet, Decibels, Outcome, Refusal, Tenths};
-
-// A spectrum term, where the kind has it.
-#[derive(Clone, Copy)]
-pub enum Term {
-    Given(Decibels),
-    Absent,
-}
+use quantity::{BandSet, Decibels, Refusal, Tenths};
 
 // The rating, its terms (C and Ctr, or the impact term and none), the count of curve shifts, and whether the set is marked as
 // a limit set: the rating is then at least this for airborne, at most this for impact.
@@ -30,23 +22,9 @@ pub enum Term {
 pub struct Sheet {
     pub rating: Decibels,
     pub first: Decibels,
-    pub second: Term,
+    pub second: Option<Decibels>,
     pub shifts: u32,
     pub limit: bool,
-}
-
-// A sheet, or the refusal that is given instead.
-#[derive(Clone, Copy)]
-pub enum Rated {
-    Rating(Sheet),
-    Refused(Refusal),
-}
-
-// The rating of a sheet alone, or the refusal.
-#[derive(Clone, Copy)]
-pub enum SingleNumber {
-    Rating(Decibels),
-    Refused(Refusal),
 }
 
 // The least level, and the sum of the energies above it.
@@ -67,13 +45,12 @@ fn sought(kind: Kind, levels: &[u32; 16], bands: usize, limit: u32) -> Accepted
 }
 
 // The least of the levels by one spectrum, and the sum of their energies.
-fn weigh(levels: &[u32; 16], bands: usize, tables: &[Cell], many: bool) -> Weighed
-    requires scaled { Scaled many tables.now }
+fn weigh(levels: &[u32; 16], bands: usize, tables: RatingTables) -> Weighed
     requires count { Count bands }
     ensures { WeighedOf (at levels.now) bands result.least result.sum }
 {
     let least = least(levels, bands);
-    let sum = energies(levels, bands, least, tables, many);
+    let sum = energies(levels, bands, least, tables);
     Weighed { least, sum }
 }
 
@@ -109,25 +86,22 @@ fn term_of(
     airborne: bool,
     origin: Position,
     p: Position,
-    tables: &[Cell],
-    many: bool,
+    tables: RatingTables,
 ) -> Decibels
-    requires tabled { Tabled many tables.now }
     requires summed { Summed w.sum }
     requires least_bound { (w.least < 5000) × (origin.0 < 200) × (p.0 < 500) }
     ensures { result.0 ≡ half_even (term_by airborne origin.0 w.least (u w.sum) p.0) }
 {
-    let step = level(tables, many, w.sum);
+    let step = tables.level(w.sum);
     let tenths = term_at(w.least, step, p, airborne, origin);
     tenths.rounded()
 }
 
 // The sheet of an accepted set, with the tables lent: whoever rates many sets lays them out once. It is handed on as the answer
 // that it is: a sheet by itself would be copied into one.
-pub fn sheet_of(kind: Kind, set: BandSet, tables: &[Cell], many: bool) -> Rated
-    requires tabled { Tabled many tables.now }
+pub fn sheet_of(kind: Kind, set: BandSet, tables: RatingTables) -> Result<Sheet, Refusal>
     requires set_accepted { accepted set (bands_of kind) ≡ true }
-    ensures { result ≡ Rated.Rating (sheet_of kind set) }
+    ensures { result ≡ Ok (sheet_of kind set) }
 {
     let n = numbers_of(kind);
     let values = plain(set);
@@ -139,14 +113,14 @@ pub fn sheet_of(kind: Kind, set: BandSet, tables: &[Cell], many: bool) -> Rated
     let shifts = accepted.shifts;
     let origin = n.origin;
     let rating = rating_at(p, n.airborne, origin);
-    let one = weigh(&by_first, n.bands, tables, many);
+    let one = weigh(&by_first, n.bands, tables);
     if n.airborne {
         // both are weighed before either step is looked up, so that neither waits for the other
         let by_second = by_second(kind, &values);
-        let other = weigh(&by_second, n.bands, tables, many);
-        let first = term_of(one, n.airborne, origin, p, tables, many);
-        let second = Term::Given(term_of(other, n.airborne, origin, p, tables, many));
-        Rated::Rating(Sheet {
+        let other = weigh(&by_second, n.bands, tables);
+        let first = term_of(one, n.airborne, origin, p, tables);
+        let second = Some(term_of(other, n.airborne, origin, p, tables));
+        Ok(Sheet {
             rating,
             first,
             second,
@@ -154,11 +128,11 @@ pub fn sheet_of(kind: Kind, set: BandSet, tables: &[Cell], many: bool) -> Rated
             limit,
         })
     } else {
-        let first = term_of(one, n.airborne, origin, p, tables, many);
-        Rated::Rating(Sheet {
+        let first = term_of(one, n.airborne, origin, p, tables);
+        Ok(Sheet {
             rating,
             first,
-            second: Term::Absent,
+            second: None,
             shifts,
             limit,
         })
@@ -166,17 +140,17 @@ pub fn sheet_of(kind: Kind, set: BandSet, tables: &[Cell], many: bool) -> Rated
 }
 
 // Whether a set can be rated: 1 where its length is not the kind's, then 4 where a band is out of range.
-fn accept(kind: Kind, set: BandSet) -> Outcome
-    ensures { result ≡ outcome_of kind set }
+fn accept(kind: Kind, set: BandSet) -> Result<(), Refusal>
+    ensures { result ≡ accept_of kind set }
 {
     let bands = bands_of(kind);
     if set.len != bands {
-        return Outcome::Refused(Refusal::BandCount);
+        return Err(Refusal::BandCount);
     }
     if !all_in_range(set, bands) {
-        return Outcome::Refused(Refusal::BandRange);
+        return Err(Refusal::BandRange);
     }
-    Outcome::Accepted
+    Ok(())
 }
 
 // The rating of an accepted set, without its terms.
@@ -193,24 +167,18 @@ fn rating_of(kind: Kind, set: BandSet) -> Decibels
 }
 
 // The rating alone, as `rate` gives it: no table of energies is laid out for it.
-pub fn rate_alone(kind: Kind, set: BandSet) -> SingleNumber
+pub fn rate_alone(kind: Kind, set: BandSet) -> Result<Decibels, Refusal>
     ensures { result ≡ single_of (rated_of kind set) }
 {
-    match accept(kind, set) {
-        Outcome::Accepted => SingleNumber::Rating(rating_of(kind, set)),
-        Outcome::Refused(refusal) => SingleNumber::Refused(refusal),
-    }
+    accept(kind, set)?;
+    Ok(rating_of(kind, set))
 }
 
 // Rates a band set: its sheet, or the refusal.
-pub fn rate(kind: Kind, set: BandSet) -> Rated
+pub fn rate(kind: Kind, set: BandSet) -> Result<Sheet, Refusal>
     ensures { result ≡ rated_of kind set }
 {
-    match accept(kind, set) {
-        Outcome::Refused(refusal) => Rated::Refused(refusal),
-        Outcome::Accepted => {
-            let tables = tables();
-            sheet_of(kind, set, &tables, false)
-        }
-    }
+    accept(kind, set)?;
+    let cells = tables();
+    sheet_of(kind, set, RatingTables::for_one(&cells))
 }

@@ -11,11 +11,9 @@ use Rattle.quantity.specs.Quantities.{priced}
 use Rattle.quantity.specs.declared.refusals.Refusal.{Refusal}
 use Rattle.quantity.specs.declared.refusals.Refusal.TheVariants.{NotARequest, PriceRange, OtherBands, RegisterFull, RegisterDamaged}
 use Rattle.rating.specs.declared.sheets.Sheet.{Sheet}
-use Rattle.rating.specs.declared.sheets.Rated.TheVariants as rating
 use Rattle.rating.specs.Sheets.{rated_of}
 use Rattle.entry.specs.declared.entries.Entry.{Entry}
 use Rattle.register.specs.declared.registers.Register.{Register}
-use Rattle.register.specs.declared.steps.Billed.TheVariants.{Refused}
 use Rattle.register.specs.declared.steps.Step.{Step}
 use Rattle.entry.specs.Entries.{same_key, same_bands, Call, entry_of}
 use Rattle.register.specs.Registers.{entry_at, sound, known, held, Due, place_due, due_of, billed_by, billed_of, after_by, after_of}
@@ -24,6 +22,7 @@ use Rattle.laws.proofs.Ranges.{any_none, any_found, any-mono}
 use Rattle.entry.proofs.Texts.{key-sym, key-trans}
 use Rattle.register.proofs.Places.{Missed}
 use Rattle.register.proofs.Soundness.{sole}
+use Rattle.std.specs.Prelude.{Ok, Err}
 
 -- ---- by what is there
 module _ (r : Register) (e : Entry) (sheet : Sheet) where
@@ -100,11 +99,11 @@ module _ (r : Register) (x : Call) where
     due-shape b = rw (a, b)
 
     module _ (b : key_shape x.key ≡ true) where
-      pub due-refused : (f : Refusal) → rated_of x.kind x.set ≡ rating.Refused f → due_of r x ≡ refuse f
+      pub due-refused : (f : Refusal) → rated_of x.kind x.set ≡ Err f → due_of r x ≡ refuse f
       unfolding due_of
       due-refused f c = rw (a, b, c)
 
-      module _ (sheet : Sheet) (c : rated_of x.kind x.set ≡ rating.Rating sheet) where
+      module _ (sheet : Sheet) (c : rated_of x.kind x.set ≡ Ok sheet) where
         pub due-price : priced x.price ≡ false → due_of r x ≡ refuse PriceRange
         unfolding due_of
         due-price d = rw (a, b, c, d)
@@ -114,7 +113,7 @@ module _ (r : Register) (x : Call) where
         due-placed d = rw (a, b, c, d)
 
 -- ---- the answer and the register
-pub refused-by : (r : Register) (s : Step) (f : Refusal) (d : Due) (e : Entry) (p : ℕ) → s ≡ record { register = r; billed = Refused f } → d ≡ refuse f
+pub refused-by : (r : Register) (s : Step) (f : Refusal) (d : Due) (e : Entry) (p : ℕ) → s ≡ record { register = r; billed = Err f } → d ≡ refuse f
     → (s.billed ≡ billed_by d p) × (s.register ≡ after_by d r e)
 refused-by r s f d e p h g = rw g (ap (λ (t : Step). t.billed) h, ap (λ (t : Step). t.register) h)
 
@@ -122,7 +121,7 @@ abbrev pub Steps : Register → Call → Step → Type 0
 Steps r x s = (s.billed ≡ billed_of r x) × (s.register ≡ after_of r x)
 
 module _ (r : Register) (x : Call) (s : Step) where
-  pub step-refused : (f : Refusal) → s ≡ record { register = r; billed = Refused f } → due_of r x ≡ refuse f → Steps r x s
+  pub step-refused : (f : Refusal) → s ≡ record { register = r; billed = Err f } → due_of r x ≡ refuse f → Steps r x s
   unfolding after_of billed_of
   step-refused f e d = refused-by r s f (due_of r x) (entry_of x) x.price e d
 

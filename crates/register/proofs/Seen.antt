@@ -10,20 +10,19 @@ use Rattle.quantity.specs.Quantities.{priced}
 use Rattle.quantity.specs.declared.refusals.Refusal.{Refusal}
 use Rattle.quantity.specs.declared.refusals.Refusal.TheVariants.{NotARequest, PriceRange, OtherBands, RegisterFull, RegisterDamaged}
 use Rattle.rating.specs.declared.sheets.Sheet.{Sheet}
-use Rattle.rating.specs.declared.sheets.Rated.{Rated}
-use Rattle.rating.specs.declared.sheets.Rated.TheVariants.{Rating, Refused}
 use Rattle.rating.specs.Sheets.{rated_of}
 use Rattle.register.specs.declared.registers.Register.{Register}
 use Rattle.entry.specs.Entries.{Call, entry_of}
 use Rattle.register.specs.Registers.{sound, known, held, place_due, due_of}
 use Rattle.register.specs.Registers.Due.{refuse, repeat, enter}
 use Rattle.register.proofs.Dues.{place-held, place-known, place-free, place-full, due-damaged, due-shape, due-refused, due-price, due-placed}
+use Rattle.std.specs.Prelude.{Result, Ok, Err}
 
 -- what is known of a call that is rated and charged
 pub record Taken (r : Register) (x : Call) (sheet : Sheet) : Type 0 where
   pub whole : sound r ≡ true
   pub shape : key_shape x.key ≡ true
-  pub rated : rated_of x.kind x.set ≡ Rating sheet
+  pub rated : rated_of x.kind x.set ≡ Ok sheet
   pub price : priced x.price ≡ true
 
 pub placed : (r : Register) (x : Call) (sheet : Sheet) → Taken r x sheet → due_of r x ≡ place_due r (entry_of x) sheet
@@ -33,8 +32,8 @@ placed r x sheet t = due-placed r x t.whole t.shape sheet t.rated t.price
 pub data Why (r : Register) (x : Call) : Refusal → Type 0 where
   damaged : sound r ≡ false → Why r x RegisterDamaged
   misshapen : sound r ≡ true → key_shape x.key ≡ false → Why r x NotARequest
-  unrated : {refusal : Refusal} → sound r ≡ true → key_shape x.key ≡ true → rated_of x.kind x.set ≡ Refused refusal → Why r x refusal
-  dear : {sheet : Sheet} → sound r ≡ true → key_shape x.key ≡ true → rated_of x.kind x.set ≡ Rating sheet → priced x.price ≡ false
+  unrated : {refusal : Refusal} → sound r ≡ true → key_shape x.key ≡ true → rated_of x.kind x.set ≡ Err refusal → Why r x refusal
+  dear : {sheet : Sheet} → sound r ≡ true → key_shape x.key ≡ true → rated_of x.kind x.set ≡ Ok sheet → priced x.price ≡ false
       → Why r x PriceRange
   other : {sheet : Sheet} → Taken r x sheet → held r (entry_of x) ≡ false → known r (entry_of x) ≡ true → Why r x OtherBands
   crowded : {sheet : Sheet} → Taken r x sheet → known r (entry_of x) ≡ false → 512 ≤ r.count → Why r x RegisterFull
@@ -61,15 +60,15 @@ seen r x = by-sound (sound r) refl
     by-held sheet t true h = retried sheet t h (placed r x sheet t ∙ place-held r (entry_of x) sheet h)
     by-held sheet t false h = by-known sheet t h (known r (entry_of x)) refl
 
-    by-price : (sheet : Sheet) → sound r ≡ true → key_shape x.key ≡ true → rated_of x.kind x.set ≡ Rating sheet → (b : Bool)
+    by-price : (sheet : Sheet) → sound r ≡ true → key_shape x.key ≡ true → rated_of x.kind x.set ≡ Ok sheet → (b : Bool)
         → priced x.price ≡ b → Seen r x
     by-price sheet s k e true p =
         by-held sheet (record { whole = s; shape = k; rated = e; price = p }) (held r (entry_of x)) refl
     by-price sheet s k e false p = turned PriceRange (dear s k e p) (due-price r x s k sheet e p)
 
-    by-rated : sound r ≡ true → key_shape x.key ≡ true → (d : Rated) → rated_of x.kind x.set ≡ d → Seen r x
-    by-rated s k (Rating sheet) e = by-price sheet s k e (priced x.price) refl
-    by-rated s k (Refused refusal) e = turned refusal (unrated s k e) (due-refused r x s k refusal e)
+    by-rated : sound r ≡ true → key_shape x.key ≡ true → (d : Result Sheet Refusal) → rated_of x.kind x.set ≡ d → Seen r x
+    by-rated s k (Ok sheet) e = by-price sheet s k e (priced x.price) refl
+    by-rated s k (Err refusal) e = turned refusal (unrated s k e) (due-refused r x s k refusal e)
 
     by_shape : sound r ≡ true → (b : Bool) → key_shape x.key ≡ b → Seen r x
     by_shape s true k = by-rated s k (rated_of x.kind x.set) refl

@@ -14,15 +14,14 @@ use Rattle.quantity.specs.declared.quantities.Fen.{Fen}
 use Rattle.quantity.specs.declared.refusals.Refusal.TheVariants.{RegisterDamaged}
 use Rattle.laws.specs.Tests.{all_to}
 use Rattle.laws.proofs.Ranges.{all-at, any_found}
-use Rattle.rating.specs.declared.sheets.Rated.TheVariants.{Refused}
 use Rattle.entry.specs.declared.entries.Entry.{Entry}
 use Rattle.entry.proofs.Oks.{ok-short, ok-priced}
 use Rattle.register.specs.declared.registers.Register.{Register}
-use Rattle.register.specs.declared.totals.Owed.TheVariants as owed
 use Rattle.entry.specs.Entries.{same_key, entry_ok}
 use Rattle.register.specs.Registers.{entry_at, repeated, sound, price_for, total_in, owed_of}
 use Rattle.register.specs.Looks.{Short, WordsOf, LookedAt}
 use Rattle.entry.proofs.Texts.{key-sym}
+use Rattle.std.specs.Prelude.{Ok, Err}
 
 -- ---- a register, by the tests of the code in order
 pub shorts : (r : Register) (n : ℕ) → all_to (λ i. entry_ok (entry_at r i)) n ≡ true → Short r n
@@ -118,10 +117,10 @@ pub total-more : (f : ℕ → ℕ) (i t p : ℕ) → t ≡ sum_to f i → p ≡ 
 total-more f i t p a b = rw (a, b) (sym (sum_more f i))
 
 module _ (r : Register) (customer : ℕ) where
-  pub owed-damaged : sound r ≡ false → owed.Refused RegisterDamaged ≡ owed_of r customer
+  pub owed-damaged : sound r ≡ false → Err RegisterDamaged ≡ owed_of r customer
   unfolding owed_of
   owed-damaged h = rw h
 
-  pub owed-total : (t : Fen) → sound r ≡ true → t.0 ≡ total_in r customer → owed.Total t ≡ owed_of r customer
+  pub owed-total : (t : Fen) → sound r ≡ true → t.0 ≡ total_in r customer → Ok t ≡ owed_of r customer
   unfolding owed_of
-  owed-total t h e = rw h (ap (λ (n : ℕ). owed.Total (record { 0 = n })) e)
+  owed-total t h e = rw h (ap (λ (n : ℕ). Ok (record { 0 = n })) e)

@@ -12,4 +12,4 @@ mod totals;
 
 pub use registers::{Register, open_register};
 pub use steps::{Billed, Step, enter};
-pub use totals::{Owed, owed_by};
+pub use totals::owed_by;

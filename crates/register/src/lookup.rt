@@ -6,22 +6,20 @@ ghost use Rattle.register.specs.Looks.{WordsOf, PlaceOf, Short};
 use crate::registers::Register;
 use entry::{Entry, same_key};
 
-// The place of an entry's customer and key among the first n; n where they are not there.
-pub fn place_of(register: &Register, words: &[u32; 512], n: usize, e: Entry, w: u32) -> usize
+// The place of an entry's customer and key among the first n, if they are there.
+pub fn place_of(register: &Register, words: &[u32; 512], n: usize, e: Entry, w: u32) -> Option<usize>
     requires n_bound { (n ≤ 512) × (e.length ≤ 32) × (w ≡ word_of e) }
     requires short { Short register.now n }
     requires words_of { WordsOf register.now n words.now }
     ensures { PlaceOf register.now n e result }
 {
-    let mut i = 0;
-    while i < n {
+    for i in 0..n {
         if words[i] == w {
             let kept = register.entries[i];
             if same_key(kept, e) {
-                return i;
+                return Some(i);
             }
         }
-        i += 1;
     }
-    n
+    None
 }

@@ -11,28 +11,28 @@ use crate::sound::look;
 use entry::{Entry, entry_of, same_bands, word_of};
 use kinds::Kind;
 use quantity::{BandSet, Fen, Refusal, is_key_of};
-use rating::{Rated, Sheet, rate};
+use rating::{Sheet, rate};
 
-// The sheet and what is charged now, or the refusal that is given instead.
+// The sheet and what is charged now.
 #[derive(Clone, Copy)]
-pub enum Billed {
-    Charged(Sheet, Fen),
-    Refused(Refusal),
+pub struct Billed {
+    pub sheet: Sheet,
+    pub charged: Fen,
 }
 
 // A register and what was answered.
 #[derive(Clone, Copy)]
 pub struct Step {
     pub register: Register,
-    pub billed: Billed,
+    pub billed: Result<Billed, Refusal>,
 }
 
 fn refuse(register: &Register, refusal: Refusal) -> Step
-    ensures { result ≡ record { register = register.now; billed = Billed.Refused refusal } }
+    ensures { result ≡ record { register = register.now; billed = Err refusal } }
 {
     Step {
         register: *register,
-        billed: Billed::Refused(refusal),
+        billed: Err(refusal),
     }
 }
 
@@ -57,22 +57,25 @@ fn place(register: Register, words: [u32; 512], e: Entry, kind: Kind, sheet: She
     ensures register_after { result.register ≡ after_by (place_due register e sheet) register e }
 {
     let count = register.count;
-    let at = place_of(&register, &words, count, e, word_of(e));
-    if at < count {
-        let kept = register.entries[at];
-        if same_bands(kept, e, kind) {
+    if let Some(at) = place_of(&register, &words, count, e, word_of(e)) {
+        if same_bands(register.entries[at], e, kind) {
             return Step {
                 register,
-                billed: Billed::Charged(sheet, Fen(0)),
+                billed: Ok(Billed {
+                    sheet,
+                    charged: Fen(0),
+                }),
             };
         }
         return refuse(&register, Refusal::OtherBands);
     }
     if count < 512 {
-        let price = e.price;
         return Step {
             register: with_entry(register, e),
-            billed: Billed::Charged(sheet, price),
+            billed: Ok(Billed {
+                sheet,
+                charged: e.price,
+            }),
         };
     }
     refuse(&register, Refusal::RegisterFull)
@@ -90,20 +93,18 @@ pub fn enter(
     ensures billed { result.billed ≡ billed_of register (call_of customer key.now kind set price.0) }
     ensures register_after { result.register ≡ after_of register (call_of customer key.now kind set price.0) }
 {
-    let looked = look(&register);
-    if !looked.sound {
+    let Some(words) = look(&register) else {
         return refuse(&register, Refusal::RegisterDamaged);
-    }
+    };
     if !is_key_of(key) {
         return refuse(&register, Refusal::NotARequest);
     }
     match rate(kind, set) {
-        Rated::Refused(refusal) => refuse(&register, refusal),
-        Rated::Rating(sheet) => {
+        Err(refusal) => refuse(&register, refusal),
+        Ok(sheet) => {
             if !price.in_range() {
                 return refuse(&register, Refusal::PriceRange);
             }
-            let words = looked.words;
             place(
                 register,
                 words,

@@ -14,20 +14,14 @@ use Rattle.quantity.specs.Quantities.{in_range, nought}
 use Rattle.quantity.specs.declared.quantities.Tenths.{Tenths}
 use Rattle.quantity.specs.declared.refusals.Refusal.{Refusal}
 use Rattle.quantity.specs.declared.refusals.Refusal.TheVariants.{BandCount, ReadingMissing, BandRange}
-use Rattle.quantity.specs.declared.refusals.Outcome.{Outcome}
-use Rattle.quantity.specs.declared.refusals.Outcome.TheVariants as outcome
 use Rattle.quantity.specs.Refusals.{or_else}
 use Rattle.curve.specs.Bands.{accepted}
 use Rattle.laws.proofs.Ranges.{all_made}
 use Rattle.kinds.specs.declared.kinds.Kind.{Kind}
 use Rattle.kinds.specs.declared.kinds.Kind.TheVariants.{A3, A1, I3, I1}
 use Rattle.kinds.specs.Kinds.{bands_of}
-use Rattle.rating.specs.declared.sheets.Rated.{Rated}
-use Rattle.rating.specs.declared.sheets.Rated.TheVariants.{Refused}
 use Rattle.rating.specs.Sheets.{rated_of}
 use Rattle.request.specs.declared.bands.Gathered.{Gathered}
-use Rattle.request.specs.declared.heads.Named.{Named}
-use Rattle.request.specs.declared.heads.Named.TheVariants as named
 use Rattle.reply.specs.declared.requests.Reply.{Reply}
 use Rattle.answer.specs.Texts.{others, line_text, kind_text, fields_of, rated_text, no_request_text}
 use Rattle.request.specs.Texts.{Band}
@@ -40,6 +34,8 @@ use Rattle.reply.specs.Answers.{set_of, judged_by, judged, judged_in, Clean, no_
 use Rattle.request.proofs.Stands.{Stands, fits}
 use Rattle.request.proofs.Wholes.{BandsGood, bands-ok, span-most, kind_ok, kind-two, text-length, RequestGood, request-ok}
 use Rattle.laws.proofs.Tests.{clash}
+use Rattle.std.specs.Prelude.{Result, Err, Option, Some, None}
+use Rattle.rating.specs.declared.sheets.Sheet.{Sheet}
 
 sixteen : (kind : Kind) → bands_of kind ≤ 16
 sixteen A3 = omega arith
@@ -49,27 +45,27 @@ sixteen I1 = omega arith
 
 -- what a request is answered, by the tests of the code
 module _ (kind : Kind) (r : Gathered) where
-  abbrev sheet : Rated
+  abbrev sheet : Result Sheet Refusal
   sheet = rated_of kind (record { values = r.values; marks = r.marks; len = r.count })
 
-  by-fault : (n : ℕ) (x : Rated) → n ≡ bands_of kind → r.count ≡ n → x ≡ judged_by r.fault sheet → x ≡ judged_in kind r
+  by-fault : (n : ℕ) (x : Result Sheet Refusal) → n ≡ bands_of kind → r.count ≡ n → x ≡ judged_by r.fault sheet → x ≡ judged_in kind r
   by-fault n x e h f = rw (eq-eqb r.count (bands_of kind) (h ∙ e)) f
 
-  pub judge-sheet : (n : ℕ) (x : Rated) → n ≡ bands_of kind → r.count ≡ n → r.fault ≡ outcome.Accepted → x ≡ sheet → x ≡ judged_in kind r
+  pub judge-sheet : (n : ℕ) (x : Result Sheet Refusal) → n ≡ bands_of kind → r.count ≡ n → r.fault ≡ None → x ≡ sheet → x ≡ judged_in kind r
   judge-sheet n x e h f g = by-fault n x e h (rw f g)
 
 -- what the code gathered is judged as the bands are
 pub judged-same : (kind : Kind) (bands : List Band) (r : Gathered) → Holds bands r → judged_in kind r ≡ judged kind bands
 unfolding judged set_of
 judged-same kind bands r h =
-    ap (λ (n : ℕ). cond (eqb n (bands_of kind)) (judged_by r.fault set) (Refused BandCount)) h.count
+    ap (λ (n : ℕ). cond (eqb n (bands_of kind)) (judged_by r.fault set) (Err BandCount)) h.count
     ∙ go (eqb (length bands) (bands_of kind)) refl
   where
-    set : Rated
+    set : Result Sheet Refusal
     set = rated_of kind (record { values = r.values; marks = r.marks; len = r.count })
 
-    pick : Bool → Rated
-    pick t = elim t [ true ↦ judged_by (first_fault bands) (rated_of kind (record { values = values_of bands; marks = marks_of bands; len = length bands })) | false ↦ Refused BandCount ]
+    pick : Bool → Result Sheet Refusal
+    pick t = elim t [ true ↦ judged_by (first_fault bands) (rated_of kind (record { values = values_of bands; marks = marks_of bands; len = length bands })) | false ↦ Err BandCount ]
 
     sets : length bands ≤ 16 → set ≡ rated_of kind (record { values = values_of bands; marks = marks_of bands; len = length bands })
     sets few =
@@ -77,30 +73,30 @@ judged-same kind bands r h =
         ∙ ap (λ (m : ℕ). rated_of kind (record { values = values_of bands; marks = m; len = r.count })) (h.marks few)
         ∙ ap (λ (n : ℕ). rated_of kind (record { values = values_of bands; marks = marks_of bands; len = n })) h.count
 
-    go : (t : Bool) → eqb (length bands) (bands_of kind) ≡ t → cond (eqb (length bands) (bands_of kind)) (judged_by r.fault set) (Refused BandCount)
+    go : (t : Bool) → eqb (length bands) (bands_of kind) ≡ t → cond (eqb (length bands) (bands_of kind)) (judged_by r.fault set) (Err BandCount)
         ≡ pick (eqb (length bands) (bands_of kind))
     go true e =
         rw e
-        (ap (λ (o : Outcome). judged_by o set) h.fault
+        (ap (λ (o : Option Refusal). judged_by o set) h.fault
         ∙ ap (judged_by (first_fault bands)) (sets (omega (arith, eqb-true (length bands) (bands_of kind) e, sixteen kind))))
     go false e = rw e
 
 -- bands that give no refusal are in range, so that the set of them is accepted
-refused_none : (r : Refusal) → ◌≡◌ {A = Outcome} (outcome.Refused r) outcome.Accepted → ⊥
+refused_none : (r : Refusal) → ◌≡◌ {A = (Option Refusal)} (Some r) None → ⊥
 refused_none r e = clash cc
 
-none_first : (z : ℤ) (o : Outcome) → or_else (fault_of (level true z)) o ≡ outcome.Accepted → in_range z ≡ true
+none_first : (z : ℤ) (o : Option Refusal) → or_else (fault_of (level true z)) o ≡ None → in_range z ≡ true
 none_first z o e = go (in_range z) e
   where
-    go : (t : Bool) → or_else (cond t outcome.Accepted (outcome.Refused BandRange)) o ≡ outcome.Accepted → t ≡ true
+    go : (t : Bool) → or_else (cond t None (Some BandRange)) o ≡ None → t ≡ true
     go true e = refl
     go false e = absurd (refused_none BandRange e)
 
-none_after : (o p : Outcome) → or_else o p ≡ outcome.Accepted → p ≡ outcome.Accepted
-none_after outcome.Accepted p e = e
-none_after (outcome.Refused r) p e = absurd (refused_none r e)
+none_after : (o p : Option Refusal) → or_else o p ≡ None → p ≡ None
+none_after None p e = e
+none_after (Some r) p e = absurd (refused_none r e)
 
-in-range-at : (bs : List Band) (rest : List Tenths) (i : ℕ) → first_fault bs ≡ outcome.Accepted → i < length bs
+in-range-at : (bs : List Band) (rest : List Tenths) (i : ℕ) → first_fault bs ≡ None → i < length bs
     → in_range (get_or (map value_of bs ++ rest) i nought).0 ≡ true
 unfolding first_fault
 in-range-at [] rest i e h = absurd (omega arith)
@@ -194,7 +190,7 @@ module _ (s : List ℕ) (at : ℕ) (kind : Kind) (n : ℕ) (span : n ≡ key_spa
             ap (λ (t : Bool). cond t (record { next = next; kind = kind; key = at + 3; len = length (take n (drop (at + 3) s)); rated = judged kind (b ∷ bs) }) no_reply)
             (lt-leb next (at + 512) (omega (arith, g.0)))
 
-    pub bands-read : (r : Gathered) (rated : Rated) → GatheredAt (bands_at s (at + 3 + n)) r → (r.next ≡ 0 → ⊥) → (r.count ≡ 0 → ⊥) → r.next ≤ at + 512
+    pub bands-read : (r : Gathered) (rated : Result Sheet Refusal) → GatheredAt (bands_at s (at + 3 + n)) r → (r.next ≡ 0 → ⊥) → (r.count ≡ 0 → ⊥) → r.next ≤ at + 512
         → rated ≡ judged_in kind r → Target (record { next = r.next; kind = kind; key = at + 3; len = n; rated = rated })
     unfolding reply_to
     bands-read r rated g z c h e =
@@ -209,13 +205,13 @@ module _ (s : List ℕ) (at : ℕ) (kind : Kind) (n : ℕ) (span : n ≡ key_spa
         go (ended (b ∷ bs) next) g =
             ap (λ (k : ℕ). record { next = k; kind = kind; key = at + 3; len = n; rated = rated }) g.0
             ∙ ap (λ (k : ℕ). record { next = next; kind = kind; key = at + 3; len = k; rated = rated }) size
-            ∙ ap (λ (x : Rated). record { next = next; kind = kind; key = at + 3; len = length (take n (drop (at + 3) s)); rated = x }) (e ∙ judged-same kind (b ∷ bs) r g.1)
+            ∙ ap (λ (x : Result Sheet Refusal). record { next = next; kind = kind; key = at + 3; len = length (take n (drop (at + 3) s)); rated = x }) (e ∙ judged-same kind (b ∷ bs) r g.1)
             ∙ sym (ap (λ (t : Bool). cond t (record { next = next; kind = kind; key = at + 3; len = length (take n (drop (at + 3) s)); rated = judged kind (b ∷ bs) }) no_reply)
             (le-leb next (at + 512) (omega (arith, g.0))))
 
 -- the ways out of `reply_at`
 module _ (s : List ℕ) (at : ℕ) where
-  pub kind-inside : (k : Kind) → kind_at s at ≡ named.Is k → at + 1 < length s
+  pub kind-inside : (k : Kind) → kind_at s at ≡ Some k → at + 1 < length s
   kind-inside k e = go k (subst (Rattle.request.proofs.Wholes.KindGood s at) e (kind_ok s at))
     where
       go : (k : Kind) → Stands s at (kind_text k) → at + 1 < length s
@@ -224,22 +220,22 @@ module _ (s : List ℕ) (at : ℕ) where
       go I3 h = omega (arith, h.1.0.within)
       go I1 h = omega (arith, h.1.0.within)
 
-  pub no_kind : (x : Named) → x ≡ kind_at s at → x ≡ named.Nothing → no_reply ≡ reply_at s at
+  pub no_kind : (x : Option Kind) → x ≡ kind_at s at → x ≡ None → no_reply ≡ reply_at s at
   unfolding reply_at request_at reply_to
-  no_kind x e f = ap (λ (y : Named). reply_to at (with_kind y s at)) (sym f ∙ e)
+  no_kind x e f = ap (λ (y : Option Kind). reply_to at (with_kind y s at)) (sym f ∙ e)
 
-  pub no-tab : (x : Named) (k : Kind) (b : ℕ) → x ≡ kind_at s at → x ≡ named.Is k → b ≡ byte_at s (at + 2) → (b ≡ 9 → ⊥) → no_reply ≡ reply_at s at
+  pub no-tab : (x : Option Kind) (k : Kind) (b : ℕ) → x ≡ kind_at s at → x ≡ Some k → b ≡ byte_at s (at + 2) → (b ≡ 9 → ⊥) → no_reply ≡ reply_at s at
   unfolding reply_at request_at reply_to
   no-tab x k b e f g h =
       sym (ap (λ (t : Bool). reply_to at (cond t (with_key k s (at + 3) (key_span (drop (at + 3) s))) Asked.nothing)) (ne_eqb (byte_at s (at + 2)) 9 (λ q. h (g ∙ q))))
-      ∙ ap (λ (y : Named). reply_to at (with_kind y s at)) (sym f ∙ e)
+      ∙ ap (λ (y : Option Kind). reply_to at (with_kind y s at)) (sym f ∙ e)
 
-  pub some-kind : (x : Named) (k : Kind) (b : ℕ) (r : Reply) → x ≡ kind_at s at → x ≡ named.Is k → b ≡ byte_at s (at + 2) → b ≡ 9
+  pub some-kind : (x : Option Kind) (k : Kind) (b : ℕ) (r : Reply) → x ≡ kind_at s at → x ≡ Some k → b ≡ byte_at s (at + 2) → b ≡ 9
       → r ≡ reply_to at (with_key k s (at + 3) (key_span (drop (at + 3) s))) → r ≡ reply_at s at
   unfolding reply_at request_at
   some-kind x k b r e f g h q =
       q ∙ sym (ap (λ (t : Bool). reply_to at (cond t (with_key k s (at + 3) (key_span (drop (at + 3) s))) Asked.nothing)) (eq-eqb (byte_at s (at + 2)) 9 (sym g ∙ h)))
-      ∙ ap (λ (y : Named). reply_to at (with_kind y s at)) (sym f ∙ e)
+      ∙ ap (λ (y : Option Kind). reply_to at (with_kind y s at)) (sym f ∙ e)
 
 -- the key of a reply stands within the line
 pub reply-keyed : (s : List ℕ) (at : ℕ) (r : Reply) → r ≡ reply_at s at → Keyed s r

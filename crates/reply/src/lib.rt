@@ -6,4 +6,4 @@
 
 mod requests;
 
-pub use requests::{Reply, no_reply, reply_at};
+pub use requests::{Reply, reply_at};

@@ -11,8 +11,6 @@ use lib.Seq.{set_at}
 use Rattle.quantity.specs.Keys.{byte_at}
 use Rattle.quantity.specs.declared.quantities.Tenths.{Tenths}
 use Rattle.quantity.specs.declared.refusals.Refusal.{Refusal}
-use Rattle.quantity.specs.declared.refusals.Outcome.{Outcome}
-use Rattle.quantity.specs.declared.refusals.Outcome.TheVariants.{Accepted, Refused}
 use Rattle.quantity.specs.Refusals.{or_else}
 use Rattle.request.specs.declared.bands.Field.{Field}
 use Rattle.request.specs.declared.bands.Gathered.{Gathered}
@@ -27,20 +25,21 @@ use Rattle.request.proofs.Leaves.{inside}
 use Rattle.request.proofs.Readers.{bands-tab, bands-broken, bands-end, bands-none}
 use Rattle.request.proofs.Exact.{band-ok, FoundOk}
 use Rattle.laws.proofs.Fronts.{snoc-length}
+use Rattle.std.specs.Prelude.{Option, Some, None}
 
 -- one band more, at the end
-or-none : (o : Outcome) → or_else o Accepted ≡ o
-or-none Accepted = refl
-or-none (Refused r) = refl
+or-none : (o : Option Refusal) → or_else o None ≡ o
+or-none None = refl
+or-none (Some r) = refl
 
 fault-more : (bs : List Band) (b : Band) → first_fault (bs ++ (b ∷ [])) ≡ or_else (first_fault bs) (fault_of b)
 unfolding first_fault
 fault-more [] b = or-none (fault_of b)
 fault-more (x ∷ bs) b = ap (or_else (fault_of x)) (fault-more bs b) ∙ regroup (fault_of x) (first_fault bs) (fault_of b)
   where
-    regroup : (l m n : Outcome) → or_else l (or_else m n) ≡ or_else (or_else l m) n
-    regroup Accepted m n = refl
-    regroup (Refused r) m n = refl
+    regroup : (l m n : Option Refusal) → or_else l (or_else m n) ≡ or_else (or_else l m) n
+    regroup None m n = refl
+    regroup (Some r) m n = refl
 
 marks-more : (bs : List Band) (b : Band) → marks_of (bs ++ (b ∷ [])) ≡ marks_of bs + weight_by (mark_of b) (2 ^ length bs)
 unfolding marks_of
@@ -81,7 +80,7 @@ pub record Few (bands : List Band) (values : List Tenths) (marks weight : ℕ) :
   pub values-are : values ≡ values_of bands
   pub weight_is : weight ≡ 2 ^ length bands
 
-pub record Gathering (s : List ℕ) (start : ℕ) (values : List Tenths) (marks weight count : ℕ) (fault : Outcome) (at : ℕ) : Type 0 where
+pub record Gathering (s : List ℕ) (start : ℕ) (values : List Tenths) (marks weight count : ℕ) (fault : Option Refusal) (at : ℕ) : Type 0 where
   pub bands : List Band
   pub fuel : ℕ
   pub same : bands_at s start ≡ bands_from fuel s at bands
@@ -94,7 +93,7 @@ pub record Gathering (s : List ℕ) (start : ℕ) (values : List Tenths) (marks 
   pub high : weight ≤ 65536
   pub few : length bands ≤ 16 → Few bands values marks weight
 
-pub gather-start : (s : List ℕ) (start : ℕ) → Gathering s start (replicate 16 nought) 0 1 0 Accepted start
+pub gather-start : (s : List ℕ) (start : ℕ) → Gathering s start (replicate 16 nought) 0 1 0 None start
 unfolding bands_at values_of marks_of first_fault
 gather-start s start = record {
   bands = [];
@@ -134,7 +133,7 @@ met (found b next) r e h = record {
   fault = ap (λ (x : Field). x.fault) e;
 }
 
-module _ {s : List ℕ} {start : ℕ} {values : List Tenths} {marks weight count : ℕ} {fault : Outcome} {at : ℕ} (g : Gathering s start values marks weight count fault at)
+module _ {s : List ℕ} {start : ℕ} {values : List Tenths} {marks weight count : ℕ} {fault : (Option Refusal)} {at : ℕ} (g : Gathering s start values marks weight count fault at)
     (r : Field) (tab : byte_at s at ≡ 9) (read : r ≡ field_of (band_at s (at + 1))) (some : r.next ≡ 0 → ⊥) where
   here : at < length s
   here = inside s at (omega arith)
@@ -175,7 +174,7 @@ module _ {s : List ℕ} {start : ℕ} {values : List Tenths} {marks weight count
         same = step n.0 n.1;
         enough = omega (arith, n.1, g.enough, further);
         count-is = omega (arith, g.count-is, all-length);
-        fault-is = ap (λ (o : Outcome). or_else o r.fault) g.fault-is ∙ ap (or_else (first_fault g.bands)) found_here.fault
+        fault-is = ap (λ (o : Option Refusal). or_else o r.fault) g.fault-is ∙ ap (or_else (first_fault g.bands)) found_here.fault
             ∙ sym (fault-more g.bands found_here.band);
         short = omega (arith, g.short, further);
         whole = l;
@@ -221,7 +220,7 @@ module _ {s : List ℕ} {start : ℕ} {values : List Tenths} {marks weight count
   turn_many h = turned values marks weight g.whole g.low g.high (λ few. absurd (omega (arith, all-length, g.count-is)))
 
 -- the ways out
-module _ {s : List ℕ} {start : ℕ} {values : List Tenths} {marks weight count : ℕ} {fault : Outcome} {at : ℕ} (g : Gathering s start values marks weight count fault at) where
+module _ {s : List ℕ} {start : ℕ} {values : List Tenths} {marks weight count : ℕ} {fault : (Option Refusal)} {at : ℕ} (g : Gathering s start values marks weight count fault at) where
   by-fuel : (x : Bands) → ((m : ℕ) → bands_from (suc m) s at g.bands ≡ x) → bands_from 0 s at g.bands ≡ x → bands_at s start ≡ x
   by-fuel x f z = g.same ∙ go g.fuel
     where
@@ -261,16 +260,16 @@ module _ {s : List ℕ} {start : ℕ} {values : List Tenths} {marks weight count
       go (suc m) f = g.same ∙ ap (λ (k : ℕ). bands_from k s at g.bands) f ∙ bands-end m s at g.bands e
 
 -- where the two ways of a turn meet
-module _ {s : List ℕ} {start : ℕ} {values : List Tenths} {marks weight count : ℕ} {fault : Outcome} {at : ℕ} (g : Gathering s start values marks weight count fault at)
+module _ {s : List ℕ} {start : ℕ} {values : List Tenths} {marks weight count : ℕ} {fault : (Option Refusal)} {at : ℕ} (g : Gathering s start values marks weight count fault at)
     (r : Field) (tab : byte_at s at ≡ 9) (read : r ≡ field_of (band_at s (at + 1))) (some : r.next ≡ 0 → ⊥)
-    (values' : List Tenths) (marks' weight' : ℕ) (fault' : Outcome) (first : fault' ≡ or_else fault r.fault) where
+    (values' : List Tenths) (marks' weight' : ℕ) (fault' : Option Refusal) (first : fault' ≡ or_else fault r.fault) where
   moved : (v : List Tenths) (m w : ℕ) → values' ≡ v → marks' ≡ m → weight' ≡ w
       → Gathering s start v m w (count + 1) (or_else fault r.fault) r.next → Gathering s start values' marks' weight' (count + 1) fault' r.next
   moved v m w a b c k =
       subst (λ (x : List Tenths). Gathering s start x marks' weight' (count + 1) fault' r.next) (sym a)
       (subst (λ (x : ℕ). Gathering s start v x weight' (count + 1) fault' r.next) (sym b)
       (subst (λ (x : ℕ). Gathering s start v m x (count + 1) fault' r.next) (sym c)
-      (subst (λ (x : Outcome). Gathering s start v m w (count + 1) x r.next) (sym first) k)))
+      (subst (λ (x : Option Refusal). Gathering s start v m w (count + 1) x r.next) (sym first) k)))
 
   pub again-few : (w : ℕ) → w ≡ weight_by r.limit weight → count < 16 → values' ≡ set values count r.value → marks' ≡ marks + w → weight' ≡ weight + weight
       → Gathering s start values' marks' weight' (count + 1) fault' r.next
@@ -281,8 +280,8 @@ module _ {s : List ℕ} {start : ℕ} {values : List Tenths} {marks weight count
   again-many h a b c = moved values marks weight a b c (turn_many g r tab read some h)
 
 -- the refusal of a band is put after the one that stands, if it gives any
-pub or-refused : (o p : Outcome) (r : Refusal) → p ≡ Refused r → or_else o (Refused r) ≡ or_else o p
+pub or-refused : (o p : Option Refusal) (r : Refusal) → p ≡ Some r → or_else o (Some r) ≡ or_else o p
 or-refused o p r e = ap (or_else o) (sym e)
 
-pub or-accepted : (o p : Outcome) → p ≡ Accepted → o ≡ or_else o p
+pub or-accepted : (o p : Option Refusal) → p ≡ None → o ≡ or_else o p
 or-accepted o p e = sym (ap (or_else o) e ∙ or-none o)

@@ -13,8 +13,6 @@ use Rattle.quantity.specs.Keys.{byte_at, key_byte, KeyBytes, KeyOk}
 use Rattle.quantity.proofs.Shapes.{key-range}
 use Rattle.kinds.specs.declared.kinds.Kind.{Kind}
 use Rattle.kinds.specs.declared.kinds.Kind.TheVariants.{A3, A1, I3, I1}
-use Rattle.request.specs.declared.heads.Named.{Named}
-use Rattle.request.specs.declared.heads.Named.TheVariants as named
 use Rattle.answer.specs.Texts.{others, line_text, kind_text}
 use Rattle.request.specs.Texts.{Band, band_text, BandsOk, request_text}
 use Rattle.request.specs.Reading.{Found, band_at, Bands, bands_from, bands_at, key_span, kind_at, Asked, with_bands, with_key, with_kind, request_at, Request, whole, request_of}
@@ -27,6 +25,7 @@ use Rattle.request.proofs.Readers.{bands-tab, bands-broken, bands-end, bands-non
 use Rattle.request.proofs.Stands.{Stands, Stood, joined, front-part, back-part, move, taken, itself}
 use Rattle.request.proofs.Exact.{FoundOk, FoundAt, band-ok, band-here}
 use Rattle.laws.proofs.Tests.{clash}
+use Rattle.std.specs.Prelude.{Option, Some, None}
 
 -- ---- bands
 pub record BandsAt (s : List ℕ) (at : ℕ) (before all : List Band) (next : ℕ) : Type 0 where
@@ -158,21 +157,21 @@ key_here (b ∷ key) s at (KeyBytes.more k ks) h e =
     index i n = omega arith
 
 -- ---- kinds
-abbrev pub KindGood : List ℕ → ℕ → Named → Type 0
-KindGood s at (named.Is k) = Stands s at (kind_text k)
-KindGood s at named.Nothing = Unit {0}
+abbrev pub KindGood : List ℕ → ℕ → Option Kind → Type 0
+KindGood s at (Some k) = Stands s at (kind_text k)
+KindGood s at None = Unit {0}
 
-if-kind : (s : List ℕ) (at : ℕ) (t : Bool) (a b : Named) → (t ≡ true → KindGood s at a) → (t ≡ false → KindGood s at b) → KindGood s at (cond t a b)
+if-kind : (s : List ℕ) (at : ℕ) (t : Bool) (a b : Option Kind) → (t ≡ true → KindGood s at a) → (t ≡ false → KindGood s at b) → KindGood s at (cond t a b)
 if-kind s at true a b f g = f refl
 if-kind s at false a b f g = g refl
 
 pub kind_ok : (s : List ℕ) (at : ℕ) → KindGood s at (kind_at s at)
 unfolding kind_at
 kind_ok s at =
-    if-kind s at (eqb (byte_at s at) 65) (cond (eqb (byte_at s (at + 1)) 51) (named.Is A3) (cond (eqb (byte_at s (at + 1)) 49) (named.Is A1) named.Nothing))
-    (cond (eqb (byte_at s at) 73) (cond (eqb (byte_at s (at + 1)) 51) (named.Is I3) (cond (eqb (byte_at s (at + 1)) 49) (named.Is I1) named.Nothing)) named.Nothing)
+    if-kind s at (eqb (byte_at s at) 65) (cond (eqb (byte_at s (at + 1)) 51) (Some A3) (cond (eqb (byte_at s (at + 1)) 49) (Some A1) None))
+    (cond (eqb (byte_at s at) 73) (cond (eqb (byte_at s (at + 1)) 51) (Some I3) (cond (eqb (byte_at s (at + 1)) 49) (Some I1) None)) None)
     (λ e. by-digit 65 A3 A1 refl refl (eqb-true (byte_at s at) 65 e) (omega arith))
-    (λ e. if-kind s at (eqb (byte_at s at) 73) (cond (eqb (byte_at s (at + 1)) 51) (named.Is I3) (cond (eqb (byte_at s (at + 1)) 49) (named.Is I1) named.Nothing)) named.Nothing
+    (λ e. if-kind s at (eqb (byte_at s at) 73) (cond (eqb (byte_at s (at + 1)) 51) (Some I3) (cond (eqb (byte_at s (at + 1)) 49) (Some I1) None)) None
     (λ f. by-digit 73 I3 I1 refl refl (eqb-true (byte_at s at) 73 f) (omega arith)) (λ f. tt))
   where
     two : (b d : ℕ) → byte_at s at ≡ b → 0 < b → byte_at s (at + 1) ≡ d → 0 < d → Stands s at (b ∷ d ∷ [])
@@ -182,11 +181,11 @@ kind_ok s at =
     )
 
     by-digit : (b : ℕ) (x y : Kind) → kind_text x ≡ b ∷ 51 ∷ [] → kind_text y ≡ b ∷ 49 ∷ [] → byte_at s at ≡ b → 0 < b
-        → KindGood s at (cond (eqb (byte_at s (at + 1)) 51) (named.Is x) (cond (eqb (byte_at s (at + 1)) 49) (named.Is y) named.Nothing))
+        → KindGood s at (cond (eqb (byte_at s (at + 1)) 51) (Some x) (cond (eqb (byte_at s (at + 1)) 49) (Some y) None))
     by-digit b x y p q e z =
-        if-kind s at (eqb (byte_at s (at + 1)) 51) (named.Is x) (cond (eqb (byte_at s (at + 1)) 49) (named.Is y) named.Nothing)
+        if-kind s at (eqb (byte_at s (at + 1)) 51) (Some x) (cond (eqb (byte_at s (at + 1)) 49) (Some y) None)
         (λ f. subst (Stands s at) (sym p) (two b 51 e z (eqb-true (byte_at s (at + 1)) 51 f) (omega arith)))
-        (λ f. if-kind s at (eqb (byte_at s (at + 1)) 49) (named.Is y) named.Nothing
+        (λ f. if-kind s at (eqb (byte_at s (at + 1)) 49) (Some y) None
         (λ g. subst (Stands s at) (sym q) (two b 49 e z (eqb-true (byte_at s (at + 1)) 49 g) (omega arith))) (λ g. tt))
 
 pub kind-two : (k : Kind) → length (kind_text k) ≡ 2
@@ -195,7 +194,7 @@ kind-two A1 = refl
 kind-two I3 = refl
 kind-two I1 = refl
 
-kind-here : (s : List ℕ) (at : ℕ) (k : Kind) → Stands s at (kind_text k) → kind_at s at ≡ named.Is k
+kind-here : (s : List ℕ) (at : ℕ) (k : Kind) → Stands s at (kind_text k) → kind_at s at ≡ Some k
 kind-here s at k h = go k h
   where
     second : (b d : ℕ) → Stands s at (b ∷ d ∷ []) → d ≡ byte_at s (at + 1)
@@ -204,11 +203,11 @@ kind-here s at k h = go k h
         index : (i : ℕ) → i + 1 ≡ suc i
         index i = omega arith
 
-    go : (k : Kind) → Stands s at (kind_text k) → kind_at s at ≡ named.Is k
-    go A3 h = sym (thirds 51 (named.Is A3) (named.Is A1) refl ∙ kind-A s at 65 51 (sym h.0.is) (second 65 51 h) refl)
-    go A1 h = sym (octaves 49 (named.Is A3) (named.Is A1) (omega arith) refl ∙ kind-A s at 65 49 (sym h.0.is) (second 65 49 h) refl)
-    go I3 h = sym (thirds 51 (named.Is I3) (named.Is I1) refl ∙ kind-I s at 73 51 (sym h.0.is) (second 73 51 h) refl)
-    go I1 h = sym (octaves 49 (named.Is I3) (named.Is I1) (omega arith) refl ∙ kind-I s at 73 49 (sym h.0.is) (second 73 49 h) refl)
+    go : (k : Kind) → Stands s at (kind_text k) → kind_at s at ≡ Some k
+    go A3 h = sym (thirds 51 (Some A3) (Some A1) refl ∙ kind-A s at 65 51 (sym h.0.is) (second 65 51 h) refl)
+    go A1 h = sym (octaves 49 (Some A3) (Some A1) (omega arith) refl ∙ kind-A s at 65 49 (sym h.0.is) (second 65 49 h) refl)
+    go I3 h = sym (thirds 51 (Some I3) (Some I1) refl ∙ kind-I s at 73 51 (sym h.0.is) (second 73 51 h) refl)
+    go I1 h = sym (octaves 49 (Some I3) (Some I1) (omega arith) refl ∙ kind-I s at 73 49 (sym h.0.is) (second 73 49 h) refl)
 
 -- ---- requests
 pub record RequestAt (s : List ℕ) (at : ℕ) (kind : Kind) (key : List ℕ) (bands : List Band) (next : ℕ) : Type 0 where
@@ -286,9 +285,9 @@ pub request-ok : (s : List ℕ) (at : ℕ) → RequestGood s at (request_at s at
 unfolding request_at
 request-ok s at = go (kind_at s at) (kind_ok s at)
   where
-    go : (k : Named) → KindGood s at k → RequestGood s at (with_kind k s at)
-    go named.Nothing h = tt
-    go (named.Is kind) h = by-tab (eqb (byte_at s (at + 2)) 9) refl
+    go : (k : Option Kind) → KindGood s at k → RequestGood s at (with_kind k s at)
+    go None h = tt
+    go (Some kind) h = by-tab (eqb (byte_at s (at + 2)) 9) refl
       where
         by-tab : (t : Bool) → eqb (byte_at s (at + 2)) 9 ≡ t → RequestGood s at (cond t (with_key kind s (at + 3) (key_span (drop (at + 3) s))) Asked.nothing)
         by-tab true e = key-made s at kind h (eqb-true (byte_at s (at + 2)) 9 e)
@@ -300,7 +299,7 @@ pub request-here : (s : List ℕ) (at : ℕ) (kind : Kind) (key : List ℕ) (ban
 unfolding request_at with_key bands_at request_text line_text others
 request-here s at kind key [] k ok some h = absurd (omega arith)
 request-here s at kind key (b ∷ bs) k ok some h =
-    ap (λ (x : Named). with_kind x s at) (kind-here s at kind kind-part)
+    ap (λ (x : Option Kind). with_kind x s at) (kind-here s at kind kind-part)
     ∙ ap (λ (t : Bool). cond t (with_key kind s (at + 3) (key_span (drop (at + 3) s))) Asked.nothing) (eq-eqb (byte_at s (at + 2)) 9 tab)
     ∙ ap (with_key kind s (at + 3)) span
     ∙ ap (λ (t : Bool). cond (t && leb (length key) 32) read Asked.nothing) (le-leb 1 (length key) k.some)

@@ -7,37 +7,39 @@ ghost use Rattle.request.specs.Gathering.{field_of, weight_by, Small, Short, Gat
 
 use crate::bytes::{digit, is_digit};
 use quantity::signed::less;
-use quantity::{Outcome, Refusal, Tenths, byte};
+use quantity::{Refusal, Tenths, byte};
 
 // Tenths without a sign, and the position after them.
 #[derive(Clone, Copy)]
-pub enum Figure {
-    Read(u32, usize),
-    Nothing,
+pub struct Figure {
+    pub tenths: u32,
+    pub next: usize,
 }
 
-// A band: the position after it (0 where none stands there), its value, whether it is a limit value, and the refusal that it
-// gives, if any.
+// A band: the position after it, its value, whether it is a limit value, and the refusal that it gives, if any.
 #[derive(Clone, Copy)]
 pub struct Field {
     pub next: usize,
     pub value: Tenths,
     pub limit: bool,
-    pub fault: Outcome,
+    pub fault: Option<Refusal>,
 }
 
 // The digit after the point: the figure, up to `next`, if it is one.
-fn tenth_of(b: u8, whole: u32, next: usize) -> Figure
+fn tenth_of(b: u8, whole: u32, next: usize) -> Option<Figure>
     requires { whole < 1000 }
     ensures { result ≡ tenth_by b whole next }
 {
     if is_digit(b) {
-        return Figure::Read(10 * whole + (b - b'0') as u32, next);
+        return Some(Figure {
+            tenths: 10 * whole + (b - b'0') as u32,
+            next,
+        });
     }
-    Figure::Nothing
+    None
 }
 
-fn tenth_at(s: &[u8], at: usize, whole: u32) -> Figure
+fn tenth_at(s: &[u8], at: usize, whole: u32) -> Option<Figure>
     requires { (whole < 1000) × (at ≤ length s.now) }
     ensures { result ≡ tenth_at s.now at whole }
 {
@@ -45,18 +47,18 @@ fn tenth_at(s: &[u8], at: usize, whole: u32) -> Figure
 }
 
 // After three digits of the whole part: a point.
-fn third_at(s: &[u8], at: usize, whole: u32) -> Figure
+fn third_at(s: &[u8], at: usize, whole: u32) -> Option<Figure>
     requires { whole < 1000 }
     ensures { result ≡ third_at s.now at whole }
 {
     if byte(s, at) == b'.' {
         return tenth_at(s, at + 1, whole);
     }
-    Figure::Nothing
+    None
 }
 
 // After two digits: a point, or a third digit.
-fn second_at(s: &[u8], at: usize, whole: u32) -> Figure
+fn second_at(s: &[u8], at: usize, whole: u32) -> Option<Figure>
     requires { whole < 100 }
     ensures { result ≡ second_at s.now at whole }
 {
@@ -68,11 +70,11 @@ fn second_at(s: &[u8], at: usize, whole: u32) -> Figure
     if d < 10 {
         return third_at(s, at + 1, 10 * whole + d);
     }
-    Figure::Nothing
+    None
 }
 
 // After one digit: a point, or a second digit if the first is no 0.
-fn first_at(s: &[u8], at: usize, whole: u32) -> Figure
+fn first_at(s: &[u8], at: usize, whole: u32) -> Option<Figure>
     requires { whole < 10 }
     ensures { result ≡ first_at s.now at whole }
 {
@@ -81,88 +83,70 @@ fn first_at(s: &[u8], at: usize, whole: u32) -> Figure
         return tenth_at(s, at + 1, whole);
     }
     if whole == 0 {
-        return Figure::Nothing;
+        return None;
     }
     let d = digit(b);
     if d < 10 {
         return second_at(s, at + 1, 10 * whole + d);
     }
-    Figure::Nothing
+    None
 }
 
 // 1 to 3 digits without a needless leading zero, a point, one digit.
-fn figure_at(s: &[u8], at: usize) -> Figure
+fn figure_at(s: &[u8], at: usize) -> Option<Figure>
     ensures { result ≡ figure_at s.now at }
 {
     let d = digit(byte(s, at));
     if d < 10 {
         return first_at(s, at + 1, d);
     }
-    Figure::Nothing
-}
-
-fn no_field() -> Field
-    ensures { result ≡ field_of Found.nothing }
-{
-    Field {
-        next: 0,
-        value: Tenths(0),
-        limit: false,
-        fault: Outcome::Accepted,
-    }
+    None
 }
 
 fn missing_field(next: usize) -> Field
-    ensures { result ≡ field_of (Found.found Band.missing next) }
+    ensures { Some result ≡ field_of (Found.found Band.missing next) }
 {
     Field {
         next,
         value: Tenths(0),
         limit: false,
-        fault: Outcome::Refused(Refusal::ReadingMissing),
+        fault: Some(Refusal::ReadingMissing),
     }
 }
 
 fn level_field(value: Tenths, limit: bool, next: usize) -> Field
-    ensures { result ≡ field_of (Found.found (Band.level limit value.0) next) }
+    ensures { Some result ≡ field_of (Found.found (Band.level limit value.0) next) }
 {
-    if value.in_range() {
-        return Field {
-            next,
-            value,
-            limit,
-            fault: Outcome::Accepted,
-        };
-    }
+    let fault = if value.in_range() {
+        None
+    } else {
+        Some(Refusal::BandRange)
+    };
     Field {
         next,
         value,
         limit,
-        fault: Outcome::Refused(Refusal::BandRange),
+        fault,
     }
 }
 
 // The level that a figure is behind its sign; no level is -0.0.
-fn signed(figure: Figure, limit: bool, minus: bool) -> Field
+fn signed(figure: Option<Figure>, limit: bool, minus: bool) -> Option<Field>
     requires { Small figure }
     ensures { result ≡ field_of (signed_by limit minus figure) }
 {
-    match figure {
-        Figure::Nothing => no_field(),
-        Figure::Read(m, next) => {
-            if !minus {
-                return level_field(Tenths(less(m, 0)), limit, next);
-            }
-            if m == 0 {
-                return no_field();
-            }
-            level_field(Tenths(less(0, m)), limit, next)
-        }
+    let Figure { tenths, next } = figure?;
+    if !minus {
+        return Some(level_field(Tenths(less(tenths, 0)), limit, next));
     }
+    if tenths == 0 {
+        return None;
+    }
+    Some(level_field(Tenths(less(0, tenths)), limit, next))
 }
 
 // An optional minus and a figure.
-fn level_at(s: &[u8], at: usize, limit: bool) -> Field
+fn level_at(s: &[u8], at: usize, limit: bool) -> Option<Field>
     ensures { result ≡ field_of (level_at s.now at limit) }
 {
     if byte(s, at) == b'-' {
@@ -172,7 +156,7 @@ fn level_at(s: &[u8], at: usize, limit: bool) -> Field
 }
 
 // The band at a position, whatever stands there.
-fn any_band_at(s: &[u8], at: usize) -> Field
+fn any_band_at(s: &[u8], at: usize) -> Option<Field>
     ensures { result ≡ field_of (band_at s.now at) }
 {
     let b = byte(s, at);
@@ -183,30 +167,30 @@ fn any_band_at(s: &[u8], at: usize) -> Field
         if digit(byte(s, at + 1)) < 10 {
             return level_at(s, at, false);
         }
-        return missing_field(at + 1);
+        return Some(missing_field(at + 1));
     }
     level_at(s, at, false)
 }
 
 // The short way, without a look at the end of the line for each byte: one or two digits, a point, one digit. Nearly every band
 // of a real line is such a figure.
-fn short_at(s: &[u8], at: usize) -> Figure
+fn short_at(s: &[u8], at: usize) -> Option<Figure>
     requires { at + 4 ≤ length s.now }
     ensures { Short (figure_at s.now at) result }
 {
     let tens = s[at];
     if !is_digit(tens) {
-        return Figure::Nothing;
+        return None;
     }
     let ones = s[at + 1];
     if ones == b'.' {
         return tenth_of(s[at + 2], (tens - b'0') as u32, at + 3);
     }
     if tens == b'0' {
-        return Figure::Nothing;
+        return None;
     }
     if !is_digit(ones) {
-        return Figure::Nothing;
+        return None;
     }
     if s[at + 2] == b'.' {
         return tenth_of(
@@ -215,46 +199,43 @@ fn short_at(s: &[u8], at: usize) -> Figure
             at + 4,
         );
     }
-    Figure::Nothing
+    None
 }
 
 // The band at a position: by the short way where it can be gone.
-pub fn band_at(s: &[u8], at: usize) -> Field
+pub fn band_at(s: &[u8], at: usize) -> Option<Field>
     requires { at ≤ length s.now }
     ensures { result ≡ field_of (band_at s.now at) }
 {
     if at + 4 <= s.len() {
-        if let Figure::Read(m, next) = short_at(s, at) {
-            return Field {
-                next,
-                value: Tenths(less(m, 0)),
+        if let Some(figure) = short_at(s, at) {
+            return Some(Field {
+                next: figure.next,
+                value: Tenths(less(figure.tenths, 0)),
                 limit: false,
-                fault: Outcome::Accepted,
-            };
+                fault: None,
+            });
         }
     }
     any_band_at(s, at)
 }
 
-// The bands of a line: the position after its line feed (0 where they are broken), how many, the first refusal among them, if
-// any, and, if they are at most 16, their values and marks.
+// The bands of a line: the position after its line feed, how many, the first refusal among them, if any, and, if they are at most
+// 16, their values and marks.
 #[derive(Clone, Copy)]
 pub struct Gathered {
     pub next: usize,
     pub count: usize,
-    pub fault: Outcome,
+    pub fault: Option<Refusal>,
     pub marks: u16,
     pub values: [Tenths; 16],
 }
 
 // The first refusal stays.
-fn first_of(fault: Outcome, other: Outcome) -> Outcome
+fn first_of(fault: Option<Refusal>, other: Option<Refusal>) -> Option<Refusal>
     ensures { result ≡ or_else fault other }
 {
-    match fault {
-        Outcome::Accepted => other,
-        Outcome::Refused(refusal) => Outcome::Refused(refusal),
-    }
+    fault.or(other)
 }
 
 fn weight_of(limit: bool, weight: u32) -> u32
@@ -263,56 +244,38 @@ fn weight_of(limit: bool, weight: u32) -> u32
     if limit { weight } else { 0 }
 }
 
-fn broken() -> Gathered
-    ensures { result.next ≡ 0 }
-{
-    Gathered {
-        next: 0,
-        count: 0,
-        fault: Outcome::Accepted,
-        marks: 0,
-        values: [Tenths(0); 16],
-    }
-}
-
-// All bands from the first tab on, up to the line feed.
-pub fn bands_at(s: &[u8], start: usize) -> Gathered
+// All bands from the first tab on, up to the line feed; none where they are broken.
+pub fn bands_at(s: &[u8], start: usize) -> Option<Gathered>
     ensures { GatheredAt (bands_at s.now start) result }
 {
     let mut values = [Tenths(0); 16];
     let mut marks = 0u32;
     let mut weight = 1u32;
     let mut count = 0usize;
-    let mut fault = Outcome::Accepted;
+    let mut fault = None;
     let mut at = start;
     while byte(s, at) == b'\t' {
-        let band = band_at(s, at + 1);
-        let next = band.next;
-        if next == 0 {
-            return broken();
-        }
+        let band = band_at(s, at + 1)?;
         // on the rare path only: the common turn does not touch the refusal that stands
-        let given = band.fault;
-        if let Outcome::Refused(refusal) = given {
-            fault = first_of(fault, Outcome::Refused(refusal));
+        if band.fault.is_some() {
+            fault = first_of(fault, band.fault);
         }
         if count < 16 {
-            let value = band.value;
-            values[count] = value;
+            values[count] = band.value;
             marks += weight_of(band.limit, weight);
             weight += weight;
         }
         count += 1;
-        at = next;
+        at = band.next;
     }
     if byte(s, at) != b'\n' {
-        return broken();
+        return None;
     }
-    Gathered {
+    Some(Gathered {
         next: at + 1,
         count,
         fault,
         marks: marks as u16,
         values,
-    }
+    })
 }

@@ -5,37 +5,23 @@ ghost use Rattle.request.specs.Reading.{kind_at, key_span};
 use kinds::Kind;
 use quantity::{byte, is_key};
 
-#[derive(Clone, Copy)]
-pub enum Named {
-    Is(Kind),
-    Nothing,
-}
-
 // The kind at a position.
-pub fn kind_at(s: &[u8], at: usize) -> Named
+pub fn kind_at(s: &[u8], at: usize) -> Option<Kind>
     ensures { result ≡ kind_at s.now at }
 {
-    let b = byte(s, at);
-    if b == b'A' {
-        let d = byte(s, at + 1);
-        if d == b'3' {
-            return Named::Is(Kind::A3);
-        }
-        if d == b'1' {
-            return Named::Is(Kind::A1);
-        }
-        return Named::Nothing;
+    match byte(s, at) {
+        b'A' => match byte(s, at + 1) {
+            b'3' => Some(Kind::A3),
+            b'1' => Some(Kind::A1),
+            _ => None,
+        },
+        b'I' => match byte(s, at + 1) {
+            b'3' => Some(Kind::I3),
+            b'1' => Some(Kind::I1),
+            _ => None,
+        },
+        _ => None,
     }
-    if b == b'I' {
-        let d = byte(s, at + 1);
-        if d == b'3' {
-            return Named::Is(Kind::I3);
-        }
-        if d == b'1' {
-            return Named::Is(Kind::I1);
-        }
-    }
-    Named::Nothing
 }
 
 // How many bytes of a key stand from a position on.

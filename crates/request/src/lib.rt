@@ -9,4 +9,4 @@ mod bytes;
 mod heads;
 
 pub use bands::{Gathered, bands_at};
-pub use heads::{Named, key_span, kind_at};
+pub use heads::{key_span, kind_at};

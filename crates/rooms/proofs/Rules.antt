@@ -13,10 +13,11 @@ use Rattle.quantity.specs.Quantities.{in_range, tenths}
 use Rattle.quantity.proofs.Rim.{range-read}
 use Rattle.quantity.specs.declared.refusals.Refusal.TheVariants.{BandRange, BackgroundTooNear}
 use Rattle.energy.specs.Corrections.{c, background_rule}
-use Rattle.intake.specs.declared.singles.Taken.{Taken}
-use Rattle.intake.specs.declared.singles.Taken.TheVariants.{Value, Refused}
 use Rattle.laws.proofs.Counted.{Up}
 use Rattle.rooms.specs.Background.{above, ranged, field_level, field_mark, laboratory_level}
+use Rattle.std.specs.Prelude.{Result, Ok, Err}
+use Rattle.quantity.specs.declared.refusals.Refusal.{Refusal}
+use Rattle.intake.specs.declared.singles.Taken.{Taken}
 
 pub c-small : (d : ℕ) → c d < 16
 unfolding c
@@ -64,17 +65,17 @@ module _ (total background : ℤ) (t b : ℕ) (u : Up 200 total t) (w : Up 200 b
   field-clear h = (rw (over 60 (omega arith), from 100 h) refl, sym (over 60 (omega arith)))
 
   -- ---- the laboratory rule
-  pub laboratory-refused : t < b + 60 → Refused BackgroundTooNear ≡ laboratory_level total background
+  pub laboratory-refused : t < b + 60 → Err BackgroundTooNear ≡ laboratory_level total background
   unfolding laboratory_level
   laboratory-refused h = rw (below 60 h) refl
 
   pub laboratory-between : (r : ℕ) → b + 60 ≤ t → t < b + 150 → r ≡ c (t - b) → (z : ℤ) → z ≡ pos t -ℤ pos (200 + r)
-      → Value (tenths z) false ≡ laboratory_level total background
+      → Ok (tenths z) false ≡ laboratory_level total background
   unfolding laboratory_level
   laboratory-between r h k e z f =
-      rw (from 60 h, below 150 k) (ap (λ (y : ℤ). Value (tenths y) false) (f ∙ corrected r (omega arith) e))
+      rw (from 60 h, below 150 k) (ap (λ (y : ℤ). Ok (tenths y) false) (f ∙ corrected r (omega arith) e))
 
-  pub laboratory-clear : b + 150 ≤ t → Value (tenths total) false ≡ laboratory_level total background
+  pub laboratory-clear : b + 150 ≤ t → Ok (tenths total) false ≡ laboratory_level total background
   unfolding laboratory_level
   laboratory-clear h = rw (from 60 (omega arith), from 150 h) refl
 
@@ -98,11 +99,11 @@ field-range total background r =
     go false false h k = (omega arith, k)
 
 -- ---- the calls: "tests total, then background (4)"
-pub no-total : (x y : ℤ) (t : Taken) → in_range x ≡ false → Refused BandRange ≡ ranged (in_range x) (ranged (in_range y) t)
+pub no-total : (x y : ℤ) (t : Result Taken Refusal) → in_range x ≡ false → Err BandRange ≡ ranged (in_range x) (ranged (in_range y) t)
 no-total x y t e = rw e refl
 
-pub no-background : (x y : ℤ) (t : Taken) → in_range x ≡ true → in_range y ≡ false → Refused BandRange ≡ ranged (in_range x) (ranged (in_range y) t)
+pub no-background : (x y : ℤ) (t : Result Taken Refusal) → in_range x ≡ true → in_range y ≡ false → Err BandRange ≡ ranged (in_range x) (ranged (in_range y) t)
 no-background x y t e f = rw (e, f) refl
 
-pub both-in : (x y : ℤ) (t : Taken) → in_range x ≡ true → in_range y ≡ true → t ≡ ranged (in_range x) (ranged (in_range y) t)
+pub both-in : (x y : ℤ) (t : Result Taken Refusal) → in_range x ≡ true → in_range y ≡ true → t ≡ ranged (in_range x) (ranged (in_range y) t)
 both-in x y t e f = rw (e, f) refl

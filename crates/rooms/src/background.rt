@@ -8,56 +8,44 @@ use intake::Taken;
 use quantity::signed::{above, less};
 use quantity::{Refusal, Tenths};
 
-// A corrected level, and whether it is a limit.
-#[derive(Clone, Copy)]
-pub struct Corrected {
-    pub level: Tenths,
-    pub limit: bool,
-}
-
-// The field rule on values in range. Both levels are counted from -20.0 dB.
-pub fn in_field(total: Tenths, background: Tenths) -> Corrected
+// The field rule on values in range: the corrected level, and whether it is a limit. Both levels are counted from -20.0 dB.
+pub fn in_field(total: Tenths, background: Tenths) -> Taken
     requires total_ranged { in_range total.0 ≡ true }
     requires background_ranged { in_range background.0 ≡ true }
-    ensures { (result.level.0 ≡ field_level total.0 background.0) × (result.limit ≡ field_mark total.0 background.0) }
+    ensures { (result.value.0 ≡ field_level total.0 background.0) × (result.limit ≡ field_mark total.0 background.0) }
 {
     let t = above(total.0, 200);
     let b = above(background.0, 200);
     if t <= b + 60 {
-        return Corrected {
-            level: Tenths(less(t, 213)),
+        return Taken {
+            value: Tenths(less(t, 213)),
             limit: true,
         };
     }
     if t < b + 100 {
-        return Corrected {
-            level: Tenths(less(t, 200 + amount(t - b))),
+        return Taken {
+            value: Tenths(less(t, 200 + amount(t - b))),
             limit: false,
         };
     }
-    Corrected {
-        level: total,
+    Taken {
+        value: total,
         limit: false,
     }
 }
 
 // The field rule: 4 for the total, then 4 for the background, else the corrected level with its mark.
-pub fn correct_field(total: Tenths, background: Tenths) -> Taken
+pub fn correct_field(total: Tenths, background: Tenths) -> Result<Taken, Refusal>
     ensures { result ≡ field_of total.0 background.0 }
 {
-    if !total.in_range() {
-        return Taken::Refused(Refusal::BandRange);
+    if !total.in_range() || !background.in_range() {
+        return Err(Refusal::BandRange);
     }
-    if !background.in_range() {
-        return Taken::Refused(Refusal::BandRange);
-    }
-    let corrected = in_field(total, background);
-    let level = corrected.level;
-    Taken::Value(level, corrected.limit)
+    Ok(in_field(total, background))
 }
 
 // The laboratory rule on values in range.
-fn in_laboratory(total: Tenths, background: Tenths) -> Taken
+fn in_laboratory(total: Tenths, background: Tenths) -> Result<Taken, Refusal>
     requires total_ranged { in_range total.0 ≡ true }
     requires background_ranged { in_range background.0 ≡ true }
     ensures { result ≡ laboratory_level total.0 background.0 }
@@ -65,23 +53,26 @@ fn in_laboratory(total: Tenths, background: Tenths) -> Taken
     let t = above(total.0, 200);
     let b = above(background.0, 200);
     if t < b + 60 {
-        return Taken::Refused(Refusal::BackgroundTooNear);
+        return Err(Refusal::BackgroundTooNear);
     }
     if t < b + 150 {
-        return Taken::Value(Tenths(less(t, 200 + amount(t - b))), false);
+        return Ok(Taken {
+            value: Tenths(less(t, 200 + amount(t - b))),
+            limit: false,
+        });
     }
-    Taken::Value(total, false)
+    Ok(Taken {
+        value: total,
+        limit: false,
+    })
 }
 
 // The laboratory rule: 4 for the total, then 4 for the background, then 5, else the corrected level.
-pub fn correct_laboratory(total: Tenths, background: Tenths) -> Taken
+pub fn correct_laboratory(total: Tenths, background: Tenths) -> Result<Taken, Refusal>
     ensures { result ≡ laboratory_of total.0 background.0 }
 {
-    if !total.in_range() {
-        return Taken::Refused(Refusal::BandRange);
-    }
-    if !background.in_range() {
-        return Taken::Refused(Refusal::BandRange);
+    if !total.in_range() || !background.in_range() {
+        return Err(Refusal::BandRange);
     }
     in_laboratory(total, background)
 }

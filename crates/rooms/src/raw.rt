@@ -7,7 +7,7 @@ ghost use Rattle.rooms.specs.Raw.{raw_of, derived, difference};
 
 use crate::background::in_field;
 use energy::reverberation;
-use intake::{Taken, Time, take_float, take_time};
+use intake::{Taken, take_float, take_time};
 use quantity::signed::{above, less};
 use quantity::{Hundredths, Refusal, Tenths};
 
@@ -21,43 +21,34 @@ pub struct RawBand {
 }
 
 // The difference of levels that are in range, with its mark, or 6.
-fn differed(source: Tenths, receiving: Tenths, background: Tenths, time: Hundredths) -> Taken
+fn differed(source: Tenths, receiving: Tenths, background: Tenths, time: Hundredths) -> Result<Taken, Refusal>
     requires levels_ranged { (in_range source.0 ≡ true) × (in_range receiving.0 ≡ true) × (in_range background.0 ≡ true) }
     requires time_bound { (10 ≤ time.0) × (time.0 ≤ 2000) }
     ensures { result ≡ derived (difference source.0 receiving.0 background.0 (k time.0)) (field_mark receiving.0 background.0) }
 {
     let corrected = in_field(receiving, background);
-    let level = corrected.level;
     // levels are counted from -30.0 dB, which no corrected level is below, and k from -70
     let value = Tenths(less(
         above(source.0, 300) + reverberation(time.0),
-        above(level.0, 300) + 70,
+        above(corrected.value.0, 300) + 70,
     ));
     if value.in_range() {
-        Taken::Value(value, corrected.limit)
+        Ok(Taken {
+            value,
+            limit: corrected.limit,
+        })
     } else {
-        Taken::Refused(Refusal::DerivedRange)
+        Err(Refusal::DerivedRange)
     }
 }
 
 // The standardized difference of a raw band: its four floats are tested in order (2, then 4 or 7), then 6.
-pub fn standardized(raw: RawBand) -> Taken
+pub fn standardized(raw: RawBand) -> Result<Taken, Refusal>
     ensures { result ≡ raw_of raw }
 {
-    let source = match take_float(raw.source, false) {
-        Taken::Value(value, _) => value,
-        Taken::Refused(refusal) => return Taken::Refused(refusal),
-    };
-    let receiving = match take_float(raw.receiving, false) {
-        Taken::Value(value, _) => value,
-        Taken::Refused(refusal) => return Taken::Refused(refusal),
-    };
-    let background = match take_float(raw.background, false) {
-        Taken::Value(value, _) => value,
-        Taken::Refused(refusal) => return Taken::Refused(refusal),
-    };
-    match take_time(raw.time) {
-        Time::Value(time) => differed(source, receiving, background, time),
-        Time::Refused(refusal) => Taken::Refused(refusal),
-    }
+    let source = take_float(raw.source, false)?;
+    let receiving = take_float(raw.receiving, false)?;
+    let background = take_float(raw.background, false)?;
+    let time = take_time(raw.time)?;
+    differed(source.value, receiving.value, background.value, time)
 }

@@ -73,14 +73,12 @@ pub fn gains_at(
     let height = p.tenths();
     let mut each = [0u32; 16];
     let mut total = 0;
-    let mut i = 0;
-    while i < bands {
+    for i in 0..bands {
         let value = set.values[i];
         let now = lacking(value, airborne, entries[i], height);
         let lifted = lacking(highest, airborne, entries[i], height);
         each[i] = now - lifted;
         total += now;
-        i += 1;
     }
     Gains { each, total }
 }

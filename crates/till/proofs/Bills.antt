@@ -15,15 +15,10 @@ use Rattle.quantity.specs.Answers.Answer.{numbers}
 use Rattle.quantity.specs.declared.quantities.BandSet.{BandSet}
 use Rattle.quantity.specs.declared.quantities.Fen.{Fen}
 use Rattle.kinds.specs.declared.kinds.Kind.{Kind}
-use Rattle.kinds.specs.declared.kinds.Named.{Named}
 use Rattle.kinds.specs.Kinds.{kind_of}
 use Rattle.rating.specs.declared.sheets.Sheet.{Sheet}
 use Rattle.rating.specs.Sheets.{sheet_numbers}
 use Rattle.register.specs.declared.registers.Register.{Register}
-use Rattle.register.specs.declared.steps.Billed.{Billed}
-use Rattle.register.specs.declared.steps.Billed.TheVariants as billed
-use Rattle.register.specs.declared.totals.Owed.{Owed}
-use Rattle.register.specs.declared.totals.Owed.TheVariants as owed
 use Rattle.entry.specs.Entries.{Call, call_of}
 use Rattle.register.specs.Registers.{billed_of, owed_of, billed_answer, owed_answer}
 use Rattle.register.proofs.Fits.{bill-by, owed-by}
@@ -31,6 +26,9 @@ use Rattle.door.specs.Answers.{returned, held}
 use Rattle.door.specs.Lists.{set_from}
 use Rattle.till.specs.Registers.{kind_asked, bands_asked, call_given, BillFits, OwedFits}
 use Rattle.door.proofs.Gives.{Left, given}
+use Rattle.std.specs.Prelude.{Result, Ok, Option}
+use Rattle.register.specs.declared.steps.Billed.{Billed}
+use Rattle.quantity.specs.declared.refusals.Refusal.{Refusal}
 
 -- ---- what a call leaves
 -- its number, the register and the lent array, where its answer is a and its register t
@@ -49,10 +47,10 @@ module _ (places : ℕ) (r t : Register) (a b : Answer ℤ) (n : ℕ) (before af
   gave-room s g h = (answered.0, (rw (le-leb places (length before) h) g, answered.1))
 
 -- ---- a bill
-pub bill-fits : (r : Register) (x : Call) (b : Billed) → b ≡ billed_of r x → BillFits b
+pub bill-fits : (r : Register) (x : Call) (b : Result Billed Refusal) → b ≡ billed_of r x → BillFits b
 bill-fits r x b e = subst BillFits (sym e) (bill-by BillFits (λ f. tt) (λ sheet now m n. (m, n)) r x)
 
-module _ (b : Billed) (sheet : Sheet) (now : Fen) (e : b ≡ billed.Charged sheet now) where
+module _ (b : Result Billed Refusal) (sheet : Sheet) (now : Fen) (e : b ≡ Ok sheet now) where
   pub bill-fitting : BillFits b → (sheet.shifts ≤ 500) × (now.0 ≤ 1000000)
   bill-fitting h = subst BillFits e h
 
@@ -65,16 +63,16 @@ module _ (b : Billed) (sheet : Sheet) (now : Fen) (e : b ≡ billed.Charged shee
 
 -- ---- a call
 -- the call that is made of what the code asks for
-pub call-given : (customer : ℕ) (key : List ℕ) (kind : ℕ) (values : List ℤ) (marks price : ℕ) (n : Named) (s t : BandSet) (k : Kind)
+pub call-given : (customer : ℕ) (key : List ℕ) (kind : ℕ) (values : List ℤ) (marks price : ℕ) (n : Option Kind) (s t : BandSet) (k : Kind)
     → n ≡ kind_of kind → s ≡ set_from values marks → t ≡ bands_asked n s → k ≡ kind_asked n
     → call_of customer key k t price ≡ call_given customer key kind values marks price
 unfolding call_given
 call-given customer key kind values marks price n s t k p q u v = rw (v, u, q, p) refl
 
 -- ---- a total
-pub owed-fits : (r : Register) (customer : ℕ) (o : Owed) → o ≡ owed_of r customer → OwedFits o
+pub owed-fits : (r : Register) (customer : ℕ) (o : Result Fen Refusal) → o ≡ owed_of r customer → OwedFits o
 owed-fits r customer o e = subst OwedFits (sym e) (owed-by OwedFits (λ f. tt) (λ t h. h) r customer)
 
-module _ (o : Owed) (total : Fen) (e : o ≡ owed.Total total) where
+module _ (o : Result Fen Refusal) (total : Fen) (e : o ≡ Ok total) where
   pub total-given : (v : ℤ) → v ≡ pos total.0 → numbers (v ∷ []) ≡ owed_answer o
   total-given v q = ap (λ (z : ℤ). numbers (z ∷ [])) q ∙ ap owed_answer (sym e)

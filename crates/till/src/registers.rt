@@ -5,10 +5,10 @@ ghost use Rattle.door.specs.Answers.{returned, held};
 ghost use Rattle.till.specs.Registers.{kind_asked, bands_asked, call_given, bill_answer, bill_left, owed_given, close_left, BillFits, OwedFits};
 
 use door::{give, set_from, sheet_numbers};
-use kinds::{Kind, Named, kind_of};
+use kinds::{Kind, kind_of};
 use ledger::close_for;
-use quantity::{BandSet, Fen};
-use register::{Billed, Owed, Register, enter, owed_by};
+use quantity::{BandSet, Fen, Refusal};
+use register::{Billed, Register, enter, owed_by};
 
 // A register as a call leaves it, and the number that the call returns.
 #[derive(Clone, Copy)]
@@ -17,62 +17,47 @@ pub struct Changed {
     pub number: u32,
 }
 
-fn kind_asked(named: Named) -> Kind
+fn kind_asked(named: Option<Kind>) -> Kind
     ensures { result ≡ kind_asked named }
 {
-    match named {
-        Named::Is(kind) => kind,
-        Named::Unknown => Kind::A3,
-    }
+    named.unwrap_or(Kind::A3)
 }
 
-fn bands_asked(named: Named, set: BandSet) -> BandSet
+fn bands_asked(named: Option<Kind>, set: BandSet) -> BandSet
     ensures { result ≡ bands_asked named set }
 {
     match named {
-        Named::Is(_) => set,
-        Named::Unknown => {
-            let values = set.values;
-            BandSet {
-                values,
-                marks: set.marks,
-                len: 0,
-            }
-        }
+        Some(_) => set,
+        None => BandSet { len: 0, ..set },
     }
 }
 
 // The numbers of a sheet and what is charged now, or the refusal's number.
-fn give_billed(out: &mut [i32], billed: Billed) -> u32
+fn give_billed(out: &mut [i32], billed: Result<Billed, Refusal>) -> u32
     requires { BillFits billed }
     ensures value { result ≡ returned (billed_answer billed) (length out.old) }
     ensures out_after { out.new ≡ held (billed_answer billed) out.old }
 {
     match billed {
-        Billed::Charged(sheet, now) => {
-            let charged = now.0 as i32;
-            let mut answer = sheet_numbers(sheet);
-            answer[6] = charged;
-            give(out, answer, 7)
+        Ok(billed) => {
+            let mut answer = [0i32; 7];
+            answer[..6].copy_from_slice(&sheet_numbers(billed.sheet));
+            answer[6] = billed.charged.0 as i32;
+            give(out, &answer)
         }
-        Billed::Refused(refusal) => refusal.number(),
+        Err(refusal) => refusal.number(),
     }
 }
 
 // A total, or the refusal's number.
-fn give_owed(out: &mut [i32], owed: Owed) -> u32
+fn give_owed(out: &mut [i32], owed: Result<Fen, Refusal>) -> u32
     requires { OwedFits owed }
     ensures value { result ≡ returned (owed_answer owed) (length out.old) }
     ensures out_after { out.new ≡ held (owed_answer owed) out.old }
 {
     match owed {
-        Owed::Total(fen) => {
-            let total = fen.0 as i32;
-            let mut answer = [0i32; 17];
-            answer[0] = total;
-            give(out, answer, 1)
-        }
-        Owed::Refused(refusal) => refusal.number(),
+        Ok(total) => give(out, &[total.0 as i32]),
+        Err(refusal) => refusal.number(),
     }
 }
 

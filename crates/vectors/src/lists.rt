@@ -43,12 +43,10 @@ fn list_from(case: Case, from: usize) -> List
     let mut tenths = [0i32; 144];
     let mut marks = [0u8; 144];
     let mut floats = [0.0f32; 144];
-    let mut i = 0;
-    while i < 144 {
+    for i in 0..144 {
         tenths[i] = signed(case, from + i);
         marks[i] = (natural(case, from + 2 * i) % 256) as u8;
         floats[i] = float(case, from + 2 * i + 1);
-        i += 1;
     }
     List {
         tenths,

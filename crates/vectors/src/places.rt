@@ -17,10 +17,8 @@ fn number_of(set: u16) -> i32 {
 
 fn numbers_of(sets: &[u16; 800]) -> [i32; 800] {
     let mut numbers = [UNWRITTEN; 800];
-    let mut i = 0;
-    while i < 800 {
+    for i in 0..800 {
         numbers[i] = number_of(sets[i]);
-        i += 1;
     }
     numbers
 }
@@ -51,10 +49,8 @@ fn print_place(rt: &impl Print, z: i32) {
 // Every place up to the last written one, so that a number in a wrong place shows.
 fn print_places(rt: &impl Print, places: &[i32]) {
     let end = end_of(places);
-    let mut i = 0;
-    while i < end {
+    for i in 0..end {
         print_place(rt, places[i]);
-        i += 1;
     }
 }
 

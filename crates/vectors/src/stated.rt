@@ -4,12 +4,10 @@ use crate::lists::{List, length_of};
 use crate::numbers::{Case, NO_CASE, natural, signed};
 use crate::places::UNWRITTEN;
 use door::{readings_from, set_from, side_of};
-use kinds::{Kind, Named, kind_of};
-use lift::Lifted;
-use measurement::Intake;
-use products::{Cover, Graded};
-use quantity::{BandSet, Decibels, Outcome, Reading};
-use rating::Rated;
+use kinds::{Kind, kind_of};
+use products::{Cover, Grade};
+use quantity::{BandSet, Decibels, Reading, Refusal};
+use rating::Sheet;
 
 // What is compared of an answer: 0 and its first number, or the refusal's number and what an unwritten place holds.
 #[derive(Clone, Copy)]
@@ -31,67 +29,51 @@ fn refused(number: u32) -> Said {
 
 // All tenths of the line as a set of the stated length.
 fn set_of(case: Case, list: List, marks: u32) -> BandSet {
-    let tenths = list.tenths;
-    let set = set_from(&tenths, marks);
-    let values = set.values;
     BandSet {
-        values,
-        marks: set.marks,
         len: length_of(case),
+        ..set_from(&list.tenths, marks)
     }
 }
 
 // All readings of the line.
 fn readings_of(list: List) -> [Reading; 48] {
-    let marks = list.marks;
-    let floats = list.floats;
-    readings_from(&marks, &floats)
+    readings_from(&list.marks, &list.floats)
 }
 
-fn said_rated(rated: Rated) -> Said {
-    match rated {
-        Rated::Rating(sheet) => answered(sheet.rating.0),
-        Rated::Refused(refusal) => refused(refusal.number()),
+fn told(answer: Result<i32, Refusal>) -> Said {
+    match answer {
+        Ok(first) => answered(first),
+        Err(refusal) => refused(refusal.number()),
     }
 }
 
-fn said_intake(intake: Intake) -> Said {
-    let outcome = intake.outcome;
-    match outcome {
-        Outcome::Accepted => {
-            let set = intake.set;
-            let first = set.values[0];
-            answered(first.0)
-        }
-        Outcome::Refused(refusal) => refused(refusal.number()),
-    }
+fn said_rated(rated: Result<Sheet, Refusal>) -> Said {
+    told(rated.map(|sheet| sheet.rating.0))
 }
 
-fn said_cover(cover: Cover) -> Said {
-    match cover {
-        Cover::Improvement(improvement, _, _) => answered(improvement.0),
-        Cover::Refused(refusal) => refused(refusal.number()),
-    }
+fn said_intake(intake: Result<BandSet, Refusal>) -> Said {
+    told(intake.map(|set| set.values[0].0))
 }
 
-fn said_graded(graded: Graded) -> Said {
-    match graded {
-        Graded::Given(grade) => answered(grade.rating.0),
-        Graded::Refused(refusal) => refused(refusal.number()),
-    }
+fn said_cover(cover: Result<Cover, Refusal>) -> Said {
+    told(cover.map(|cover| cover.improvement.0))
+}
+
+fn said_graded(graded: Result<Grade, Refusal>) -> Said {
+    told(graded.map(|grade| grade.rating.0))
 }
 
 fn rate(case: Case, list: List) -> Said {
     match kind_of(natural(case, 1)) {
-        Named::Unknown => refused(1),
-        Named::Is(kind) => said_rated(desk::rate(kind, set_of(case, list, natural(case, 3)))),
+        None => refused(1),
+        Some(kind) => said_rated(desk::rate(kind, set_of(case, list, natural(case, 3)))),
     }
 }
 
 fn rate_readings(case: Case, list: List) -> Said {
     match kind_of(natural(case, 1)) {
-        Named::Unknown => refused(1),
-        Named::Is(kind) => said_rated(desk::rate_readings(
+        None => refused(1),
+        Some(kind) => said_rated(desk::rate_readings(
             kind,
             readings_of(list),
             length_of(case),
@@ -106,16 +88,16 @@ fn lift_into(case: Case, kind: Kind, set: BandSet, sets: &mut [u16]) -> Said {
         return refused(NO_CASE);
     }
     match desk::lift(kind, set, Decibels(signed(case, 4)), &mut sets[0..places]) {
-        Lifted::Count(n) => answered(n as i32),
-        Lifted::Refused(refusal) => refused(refusal.number()),
+        Ok(n) => answered(n as i32),
+        Err(refusal) => refused(refusal.number()),
     }
 }
 
 fn lift(case: Case, list: List) -> Said {
     let mut sets = [0u16; 800];
     match kind_of(natural(case, 1)) {
-        Named::Unknown => refused(1),
-        Named::Is(kind) => lift_into(case, kind, set_of(case, list, natural(case, 3)), &mut sets),
+        None => refused(1),
+        Some(kind) => lift_into(case, kind, set_of(case, list, natural(case, 3)), &mut sets),
     }
 }
 

@@ -5,14 +5,14 @@ use Rattle.answer.specs.Texts.{decimal, fields_of}
 use Rattle.answer.proofs.Fields.{sheet-texts, refused-texts}
 use Rattle.answer.proofs.texts.fields_of.Goals as goal
 
-pub returns-in-Rating : goal.returns-in-Rating
-returns-in-Rating c =
-    let s = c.in-Rating.sheet in (
+pub returns-in-Ok : goal.returns-in-Ok
+returns-in-Ok c =
+    let s = c.in-Ok.sheet in (
       sheet-texts s c.term_field.result (back s.rating.0 (omega arith)) (back s.first.0 (omega arith)) c.term_field.ensures c.mark.ensures
-          ∙ ap fields_of (sym c.in-Rating.is),
+          ∙ ap fields_of (sym c.in-Ok.is),
       refl,
     )
 
-pub returns-in-Refused : goal.returns-in-Refused
-returns-in-Refused c =
-    (refused-texts c.number.result ∙ ap (λ n. decimal n ∷ []) c.number.ensures ∙ ap fields_of (sym c.in-Refused.is), refl)
+pub returns-in-Err : goal.returns-in-Err
+returns-in-Err c =
+    (refused-texts c.number.result ∙ ap (λ n. decimal n ∷ []) c.number.ensures ∙ ap fields_of (sym c.in-Err.is), refl)

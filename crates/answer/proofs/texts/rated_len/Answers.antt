@@ -6,8 +6,8 @@ use Rattle.quantity.specs.Refusals.{number_of}
 use Rattle.answer.proofs.Writers.{refused-length}
 use Rattle.answer.proofs.texts.rated_len.Goals as goal
 
-pub returns-in-Refused : goal.returns-in-Refused
-returns-in-Refused c =
+pub returns-in-Err : goal.returns-in-Err
+returns-in-Err c =
     let e = c.decimal_len.ensures.0 ∙ ap (λ n. length (decimal n)) c.number.ensures in
-    let h = refused-length (number_of c.in-Refused.refusal) in
-    (omega arith ∙ ap (λ r. length (others (fields_of r))) (sym c.in-Refused.is), omega arith)
+    let h = refused-length (number_of c.in-Err.refusal) in
+    (omega arith ∙ ap (λ r. length (others (fields_of r))) (sym c.in-Err.is), omega arith)

@@ -19,8 +19,8 @@ answered c = wrote_one c.answer_line.result _ c.answer_line.ensures.value
 room : (c : After-answer_line) → 1 ≤ length c.args.wrote.now
 room c = omega (arith, c.if-wrote-lt1.false)
 
-pub returns-in-Bytes : goal.returns-in-Bytes
-returns-in-Bytes c = let a = line-written _ _ _ _ (room (goal.at.returns-in-Bytes c).After-answer_line) _ _ (answered (goal.at.returns-in-Bytes c).After-answer_line) c.answer_line.ensures.out_after _ c.in-Bytes.is in record { value = a.0; out_after = a.1.0; wrote_after = a.1.1 }
+pub returns-in-Ok : goal.returns-in-Ok
+returns-in-Ok c = let a = line-written _ _ _ _ (room (goal.at.returns-in-Ok c).After-answer_line) _ _ (answered (goal.at.returns-in-Ok c).After-answer_line) c.answer_line.ensures.out_after _ c.in-Ok.is in record { value = a.0; out_after = a.1.0; wrote_after = a.1.1 }
 
-pub returns-in-Refused : goal.returns-in-Refused
-returns-in-Refused c = let a = line_refused _ _ _ _ (room (goal.at.returns-in-Refused c).After-answer_line) _ _ (answered (goal.at.returns-in-Refused c).After-answer_line) c.answer_line.ensures.out_after _ _ c.in-Refused.is c.number.ensures in record { value = a.0; out_after = a.1.0; wrote_after = a.1.1 }
+pub returns-in-Err : goal.returns-in-Err
+returns-in-Err c = let a = line_refused _ _ _ _ (room (goal.at.returns-in-Err c).After-answer_line) _ _ (answered (goal.at.returns-in-Err c).After-answer_line) c.answer_line.ensures.out_after _ _ c.in-Err.is c.number.ensures in record { value = a.0; out_after = a.1.0; wrote_after = a.1.1 }

@@ -10,21 +10,21 @@ use Rattle.desk_c.proofs.Fits.{rate-fits}
 use Rattle.desk_c.proofs.ratings.imbrolt_rate.Goals as goal
 
 pub give_rated-requires : goal.give_rated-requires
-give_rated-requires c = rate-fits c.in-Is.kind c.set_from.result c.rate.result c.rate.ensures
+give_rated-requires c = rate-fits c.in-Some.kind c.set_from.result c.rate.result c.rate.ensures
 
-pub returns-in-Unknown : goal.returns-in-Unknown
+pub returns-in-None : goal.returns-in-None
 unfolding rate_answer
-returns-in-Unknown c = let a = refuses _ 1 _ (by-none _ _ (sym c.kind_of.ensures ∙ c.in-Unknown.is)) in record { value = a.0; out_after = a.1 }
+returns-in-None c = let a = refuses _ 1 _ (by-none _ _ (sym c.kind_of.ensures ∙ c.in-None.is)) in record { value = a.0; out_after = a.1 }
 
-pub returns-in-Is : goal.returns-in-Is
+pub returns-in-Some : goal.returns-in-Some
 unfolding rate_answer
-returns-in-Is c =
+returns-in-Some c =
     let a = c.args in
     let t = c.rate in
     let g = c.give_rated in
     let r = given (rated_answer t.result) (rate_answer a.kind a.values.now a.marks) g.result a.out.now _
-    (t.ensures ∙ ap rated_answer (ap (rated_of c.in-Is.kind) c.set_from.ensures)
-    ∙ by_one (kind_of a.kind) (λ k. rated_answer (rated_of k (set_from a.values.now a.marks))) c.in-Is.kind
-    (sym c.kind_of.ensures ∙ c.in-Is.is))
+    (t.ensures ∙ ap rated_answer (ap (rated_of c.in-Some.kind) c.set_from.ensures)
+    ∙ by_one (kind_of a.kind) (λ k. rated_answer (rated_of k (set_from a.values.now a.marks))) c.in-Some.kind
+    (sym c.kind_of.ensures ∙ c.in-Some.is))
     (g.ensures.value, g.ensures.out_after) in
     record { value = r.0; out_after = r.1 }

@@ -15,24 +15,24 @@ use Rattle.desk_c.proofs.ratings.imbrolt_rate_readings.Goals as goal
 
 pub give_rated-requires : goal.give_rated-requires
 give_rated-requires c =
-    readings-fit c.in-Is.kind c.readings_from.result
+    readings-fit c.in-Some.kind c.readings_from.result
     (length c.args.values.now)
     c.rate_readings.result c.rate_readings.ensures
 
-pub returns-in-Unknown : goal.returns-in-Unknown
+pub returns-in-None : goal.returns-in-None
 unfolding readings_answer
-returns-in-Unknown c = let a = refuses _ 1 _ (by-none _ _ (sym c.kind_of.ensures ∙ c.in-Unknown.is)) in record { value = a.0; out_after = a.1 }
+returns-in-None c = let a = refuses _ 1 _ (by-none _ _ (sym c.kind_of.ensures ∙ c.in-None.is)) in record { value = a.0; out_after = a.1 }
 
-pub returns-in-Is : goal.returns-in-Is
+pub returns-in-Some : goal.returns-in-Some
 unfolding readings_answer
-returns-in-Is c =
+returns-in-Some c =
     let a = c.args in
     let t = c.rate_readings in
     let g = c.give_rated in
     let r = given (rated_answer t.result) (readings_answer a.kind a.marks.now a.values.now) g.result a.out.now _
     (t.ensures
-    ∙ ap rated_answer (ap (λ (l : List Reading). readings_rated c.in-Is.kind l (length a.values.now)) c.readings_from.ensures)
+    ∙ ap rated_answer (ap (λ (l : List Reading). readings_rated c.in-Some.kind l (length a.values.now)) c.readings_from.ensures)
     ∙ by_one (kind_of a.kind) (λ k. rated_answer (readings_rated k (readings_from a.marks.now a.values.now) (length a.values.now)))
-    c.in-Is.kind (sym c.kind_of.ensures ∙ c.in-Is.is))
+    c.in-Some.kind (sym c.kind_of.ensures ∙ c.in-Some.is))
     (g.ensures.value, g.ensures.out_after) in
     record { value = r.0; out_after = r.1 }

@@ -5,9 +5,9 @@ use Rattle.measurement.specs.Lists.{set_answer}
 use Rattle.door.proofs.Gives.{given, refuses}
 use Rattle.door.proofs.given.give_set.Goals as goal
 
-pub returns-in-Refused : goal.returns-in-Refused
-returns-in-Refused c =
-    let a = refuses _ _ _ (ap refused c.number.ensures ∙ ap (set_answer c.args.intake.set c.args.n) (sym c.in-Refused.is)) in
+pub returns-in-Err : goal.returns-in-Err
+returns-in-Err c =
+    let a = refuses _ _ _ (ap refused c.number.ensures ∙ ap (set_answer c.args.intake.set c.args.n) (sym c.in-Err.is)) in
     record { value = a.0; out_after = a.1 }
 
 pub returns-in-Accepted : goal.returns-in-Accepted

@@ -6,9 +6,9 @@ use Rattle.intake.specs.Taken.{taken_answer}
 use Rattle.door.proofs.Gives.{given, taken-given}
 use Rattle.door.proofs.given.give_taken.Goals as goal
 
-pub returns-in-Value : goal.returns-in-Value
-returns-in-Value c =
-    let w = c.in-Value in
+pub returns-in-Ok : goal.returns-in-Ok
+returns-in-Ok c =
+    let w = c.in-Ok in
     let g = c.give in
     let a = given _ (taken_answer c.args.taken) g.result c.args.out.now _
     (taken-given c.args.taken w.value w.limit _ _ w.is (search rules) (back c.flag_of-mark.result c.flag_of-mark.type_inv ∙ c.flag_of-mark.ensures))

@@ -3,7 +3,7 @@ use mathlib.Core.Path.{◌∙◌}
 use Rattle.entry.proofs.Oks.{ratable-as}
 use Rattle.entry.proofs.checks.is_ratable.Goals as goal
 
-pub returns-in-Is : goal.returns-in-Is
-returns-in-Is c =
-    let w = c.in-Is in
+pub returns-in-Some : goal.returns-in-Some
+returns-in-Some c =
+    let w = c.in-Some in
     c.all_in_range.ensures ∙ ratable-as c.args.e w.kind c.kind_of.result c.set_of.result c.bands_of.result c.kind_of.ensures w.is c.set_of.ensures c.bands_of.ensures

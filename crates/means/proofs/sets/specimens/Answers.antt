@@ -15,10 +15,10 @@ means-means-requires c = record {
   mean_tabled = c.mean_tables-tables.ensures;
 }
 
-pub returns-in-Refused : goal.returns-in-Refused
-returns-in-Refused c =
-    c.refused_list-in-Refused.ensures
-    ∙ specimens-refused c.args.readings _ c.take_all-all.result c.if-len-ne-READINGS.false c.take_all-all.ensures _ c.in-Refused.is
+pub returns-in-Err : goal.returns-in-Err
+returns-in-Err c =
+    c.refused_list-in-Err.ensures
+    ∙ specimens-refused c.args.readings _ c.take_all-all.result c.if-len-ne-READINGS.false c.take_all-all.ensures _ c.in-Err.is
 
 pub returns-in-Accepted : goal.returns-in-Accepted
 returns-in-Accepted c = specimens-made c.args.readings _ c.take_all-all.result c.if-len-ne-READINGS.false c.take_all-all.ensures _ c.in-Accepted.is c.means-means.ensures

@@ -11,15 +11,15 @@ loop-i-init c = taking-none _ _
 pub overflow_add-marks : goal.overflow_add-marks
 overflow_add-marks c =
     let l = c.loop-i in
-    omega (arith, taking-marks _ _ l.values l.marks l.i (omega arith) l.invariant, c.weight-marks.ensures, weight-small c.in-Value.limit l.i (omega arith))
+    omega (arith, taking-marks _ _ l.values l.marks l.i (omega arith) l.invariant, c.weight-marks.ensures, weight-small c.in-Ok.limit l.i (omega arith))
 
-pub returns-in-Refused : goal.returns-in-Refused
-returns-in-Refused c =
+pub returns-in-Err : goal.returns-in-Err
+returns-in-Err c =
     c.refused_all.ensures
-    ∙ refused_all_lem _ _ _ (refused-at c.args.readings c.args.count _ _ c.loop-i.i _ (omega arith) c.loop-i.invariant (sym c.take_reading-taken.ensures ∙ c.in-Refused.is))
+    ∙ refused_all_lem _ _ _ (refused-at c.args.readings c.args.count _ _ c.loop-i.i _ (omega arith) c.loop-i.invariant (sym c.take_reading-taken.ensures ∙ c.in-Err.is))
 
 pub loop-i-preserved : goal.loop-i-preserved
-loop-i-preserved c = taking-more c.args.readings c.args.count _ _ c.loop-i.i _ _ _ (omega arith) (omega arith) c.loop-i.invariant (sym c.take_reading-taken.ensures ∙ c.in-Value.is) c.weight-marks.ensures
+loop-i-preserved c = taking-more c.args.readings c.args.count _ _ c.loop-i.i _ _ _ (omega arith) (omega arith) c.loop-i.invariant (sym c.take_reading-taken.ensures ∙ c.in-Ok.is) c.weight-marks.ensures
 
 pub returns : goal.returns
 returns c = taken-all _ c.args.count _ _ c.loop-i.i (omega arith) c.loop-i.invariant

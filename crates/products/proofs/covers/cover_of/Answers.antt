@@ -24,21 +24,21 @@ within c = (c.if-set-ne-BANDS.false, sym c.all_in_range.ensures ∙ c.if-not-all
 rating : (c : After-rate-rated) → rated_of I3 (derived_set c.args.set) ≡ c.rate-rated.result
 rating c = ap (rated_of I3) (sym c.derived_set-floor.ensures) ∙ sym c.rate-rated.ensures
 
-made : (c : In-Rating) → rated_of I3 (derived_set c.args.set) ≡ c.rate-rated.result → RatedBy I3 (derived_set c.args.set) c.in-Rating.sheet
-made c rating = rated-by I3 _ _ (rating ∙ c.in-Rating.is)
+made : (c : In-Rating) → rated_of I3 (derived_set c.args.set) ≡ c.rate-rated.result → RatedBy I3 (derived_set c.args.set) c.in-Ok.sheet
+made c rating = rated-by I3 _ _ (rating ∙ c.in-Ok.is)
 
 pub improvement-requires : goal.improvement-requires
 improvement-requires c =
     let w = goal.at.improvement-requires c in (made w.In-Rating (rating w.After-rate-rated)).small
 
-pub returns-in-Rating : goal.returns-in-Rating
-returns-in-Rating c =
-    let w = goal.at.returns-in-Rating c in
+pub returns-in-Ok : goal.returns-in-Ok
+returns-in-Ok c =
+    let w = goal.at.returns-in-Ok c in
     let h = within w.Else-not-all_in_range in
     let r = rating w.After-rate-rated in
-    cover-made _ h.0 h.1 _ _ (r ∙ c.in-Rating.is) (made w.In-Rating r) c.improvement.ensures
+    cover-made _ h.0 h.1 _ _ (r ∙ c.in-Ok.is) (made w.In-Rating r) c.improvement.ensures
 
-pub returns-in-Refused : goal.returns-in-Refused
-returns-in-Refused c =
-    let h = within (goal.at.returns-in-Refused c).Else-not-all_in_range in
-    cover-derived _ h.0 h.1 _ (rating (goal.at.returns-in-Refused c).After-rate-rated ∙ c.in-Refused.is)
+pub returns-in-Err : goal.returns-in-Err
+returns-in-Err c =
+    let h = within (goal.at.returns-in-Err c).Else-not-all_in_range in
+    cover-derived _ h.0 h.1 _ (rating (goal.at.returns-in-Err c).After-rate-rated ∙ c.in-Err.is)

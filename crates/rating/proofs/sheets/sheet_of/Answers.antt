@@ -12,14 +12,13 @@ use Rattle.kinds.specs.declared.kinds.Kind.{Kind}
 use Rattle.kinds.specs.Kinds.{airborne, bands_of}
 use Rattle.kinds.specs.Numbers.{entries_of, first_of, second_of}
 use Rattle.kinds.proofs.Facts.{entries_fit, first-fit, second-fit}
-use Rattle.rating.specs.declared.sheets.Term.{Term}
 use Rattle.rating.specs.Found.{Sought, term_by}
 use Rattle.rating.specs.Sheets.{sheet_of}
-use Rattle.rating.specs.declared.sheets.Rated.TheVariants.{Rating}
 use Rattle.rating.proofs.RatedLaws.{bands-are}
 use Rattle.rating.proofs.Sheeted.{ranged, of-set, count, near, low, weighed, term-by, sought-by, position-small, SecondAt, given, absent, sheet-made}
 use Rattle.rating.proofs.sheets.sheet_of.Goals as goal
 use Rattle.rating.proofs.sheets.sheet_of.Goals.{After-by_curve-by_curve, After-by_first-by_first, After-sought-accepted, After-weigh-one, After-by_second-by_second, After-weigh-other}
+use Rattle.std.specs.Prelude.{Ok, Option}
 
 -- ---- the levels
 pub by_curve-by_curve-requires : goal.by_curve-by_curve-requires
@@ -123,7 +122,7 @@ term_of-first-requires-else-n c =
 -- ---- the sheet is the defined one, once its terms are
 made : (c : After-weigh-one) → By c.args.kind c.args.set (first_of c.args.kind) c.by_first-by_first.result
     → Sought c.args.kind c.args.set c.sought-accepted.result.at.0 c.sought-accepted.result.shifts
-    → (first : Decibels) (second : Term)
+    → (first : Decibels) (second : Option Decibels)
     → let n = c.numbers_of-n.result in let p = c.sought-accepted.result in
     first.0 ≡ half_even (term_by n.airborne n.origin.0 c.weigh-one.result.least (u c.weigh-one.result.sum) p.at.0)
     → SecondAt c.args.kind n c.args.set p.at.0 second
@@ -150,7 +149,7 @@ pub returns-then-n : goal.returns-then-n
 returns-then-n c =
     let w = goal.at.returns-then-n c in
     let curve = by-curve w.After-by_curve-by_curve in
-    ap Rating
+    ap Ok
     (made w.After-weigh-one (by_first w.After-by_first-by_first) (sought w.After-sought-accepted curve)
     c.term_of-first.result _ c.term_of-first.ensures
     (given c.term_of.result c.if-n.true
@@ -161,6 +160,6 @@ pub returns-else-n : goal.returns-else-n
 returns-else-n c =
     let w = goal.at.returns-else-n c in
     let curve = by-curve w.After-by_curve-by_curve in
-    ap Rating
+    ap Ok
     (made w.After-weigh-one (by_first w.After-by_first-by_first) (sought w.After-sought-accepted curve)
     c.term_of-first-else-n.result _ c.term_of-first-else-n.ensures (absent c.if-n.false))

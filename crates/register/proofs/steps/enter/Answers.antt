@@ -5,7 +5,6 @@ use native.Mathlib.Omega.{arith}
 use borrow.Author.Tests.{not-true, not-false}
 use Rattle.quantity.specs.Keys.{key_shape}
 use Rattle.quantity.proofs.Shapes.{key-shape}
-use Rattle.rating.specs.declared.sheets.Rated.TheVariants as rating
 use Rattle.rating.specs.Sheets.{rated_of}
 use Rattle.entry.specs.Entries.{Call, call_of}
 use Rattle.register.specs.Registers.{sound}
@@ -13,6 +12,7 @@ use Rattle.entry.proofs.Bands.{entry_length, entry-kind}
 use Rattle.register.proofs.Dues.{due-damaged, due-shape, due-refused, due-price, due-placed, step-refused, step-placed}
 use Rattle.register.proofs.steps.enter.Goals as goal
 use Rattle.register.proofs.steps.enter.Goals.{Start, Else-not-looked, Else-not-is_key_of, In-Rating}
+use Rattle.std.specs.Prelude.{Ok}
 
 -- the call
 abbrev call : Start → Call
@@ -28,11 +28,11 @@ shaped c =
     (sym l.ensures.right ∙ not-false l.result.sound c.if-not-looked.false, sym c.is_key_of.ensures ∙ c.if-not-is_key_of.false)
 
 rated : (c : In-Rating) → let a = c.args in
-    (sound a.register ≡ true) × (key_shape a.key.now ≡ true) × (rated_of a.kind a.set ≡ rating.Rating c.in-Rating.sheet)
+    (sound a.register ≡ true) × (key_shape a.key.now ≡ true) × (rated_of a.kind a.set ≡ Ok c.in-Ok.sheet)
 rated c =
     let l = c.look-looked in
     let k = sym c.is_key_of.ensures ∙ c.if-not-is_key_of.false in
-    (sym l.ensures.right ∙ not-false l.result.sound c.if-not-looked.false, k, sym c.rate.ensures ∙ c.in-Rating.is)
+    (sym l.ensures.right ∙ not-false l.result.sound c.if-not-looked.false, k, sym c.rate.ensures ∙ c.in-Ok.is)
 
 pub returns-then-not-looked : goal.returns-then-not-looked
 returns-then-not-looked c =
@@ -65,11 +65,11 @@ place-requires c =
       length_bound = (omega (arith, entry_length x e, (key-shape _ k.1).most), entry-kind x e);
     }
 
-pub returns-in-Refused : goal.returns-in-Refused
-returns-in-Refused c =
-    let k = shaped (goal.at.returns-in-Refused c).Else-not-is_key_of in
-    let d = due-refused _ _ k.0 k.1 _ (sym c.rate.ensures ∙ c.in-Refused.is) in
-    let a = step-refused _ _ _ _ c.refuse-in-Refused.ensures d in record { billed = a.0; register_after = a.1 }
+pub returns-in-Err : goal.returns-in-Err
+returns-in-Err c =
+    let k = shaped (goal.at.returns-in-Err c).Else-not-is_key_of in
+    let d = due-refused _ _ k.0 k.1 _ (sym c.rate.ensures ∙ c.in-Err.is) in
+    let a = step-refused _ _ _ _ c.refuse-in-Err.ensures d in record { billed = a.0; register_after = a.1 }
 
 pub returns-else-not-in_range : goal.returns-else-not-in_range
 returns-else-not-in_range c =

@@ -5,7 +5,7 @@ use Rattle.quantity.specs.Refusals.{or_else}
 use Rattle.request.proofs.Gathers.{gather-start, further, or-refused, or-accepted, again-few, again-many, out-broken, out_none, out-end}
 use Rattle.request.proofs.Leaves.{inside-byte}
 use Rattle.request.proofs.bands.bands_at.Goals as goal
-use Rattle.request.proofs.bands.bands_at.Goals.{Joined-given, in-Refused, in_default, then-count-lt16, else-count-lt16}
+use Rattle.request.proofs.bands.bands_at.Goals.{Joined-given, in-Err, in_default, then-count-lt16, else-count-lt16}
 
 -- the first refusal after a turn
 first : (c : Joined-given) → c.match-given.fault ≡ or_else c.loop-band.fault c.band_at-band.result.fault
@@ -13,7 +13,7 @@ first c =
     let f = c.loop-band.fault in
     let g = c.band_at-band.result.fault in
     elim c.match-given.branch [
-      | in-Refused w ↦ w.fault-is ∙ w.first_of-fault.ensures ∙ or-refused f g w.in-Refused.refusal w.in-Refused.is
+      | in-Err w ↦ w.fault-is ∙ w.first_of-fault.ensures ∙ or-refused f g w.in-Err.refusal w.in-Err.is
       | in_default w ↦ w.fault-is ∙ or-accepted f g w.in_default.is
     ]
 

@@ -2,12 +2,12 @@
 use mathlib.Core.Path.{◌≡◌, sym, ◌∙◌, ap₂}
 use mathlib.Core.Bool.{Bool, true}
 use lib.IntN.{ℤ}
-use Rattle.intake.specs.declared.singles.Taken.TheVariants.{Value}
 use Rattle.rooms.specs.Background.{field_of}
 use Rattle.quantity.specs.Quantities.{in_range, tenths}
 use Rattle.rooms.proofs.Rules.{no-total, no-background, both-in}
 use Rattle.rooms.proofs.background.correct_field.Goals as goal
 use Rattle.rooms.proofs.background.correct_field.Goals.{Else-not-in_range, Else-not-in_range-2}
+use Rattle.std.specs.Prelude.{Ok}
 
 -- what the tests say that did not refuse
 total-in : (c : Else-not-in_range) → in_range c.args.total.0 ≡ true
@@ -29,5 +29,5 @@ returns-then-not-in_range-2 c =
 pub returns : goal.returns
 unfolding field_of
 returns c =
-    ap₂ (λ (z : ℤ) (m : Bool). Value (tenths z) m) c.in_field-corrected.ensures.0 c.in_field-corrected.ensures.1
+    ap₂ (λ (z : ℤ) (m : Bool). Ok (tenths z) m) c.in_field-corrected.ensures.0 c.in_field-corrected.ensures.1
     ∙ both-in _ _ _ (total-in (goal.at.returns c).Else-not-in_range) (background-in (goal.at.returns c).Else-not-in_range-2)

@@ -6,4 +6,4 @@ use Rattle.vectors.proofs.stated.lift_into.Goals as goal
 
 pub overflow_cast-n : goal.overflow_cast-n
 overflow_cast-n c =
-    record { sfits = omega (arith, count_small _ _ _ _ _ (sym (lifted-one _ _ c.in-Count.ensures.value))) }
+    record { sfits = omega (arith, count_small _ _ _ _ _ (sym (lifted-one _ _ c.in-Ok.ensures.value))) }

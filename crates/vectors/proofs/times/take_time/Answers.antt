@@ -4,4 +4,4 @@ use Rattle.intake.proofs.Meaning.{time-range}
 use Rattle.vectors.proofs.times.take_time.Goals as goal
 
 pub overflow_cast-out : goal.overflow_cast-out
-overflow_cast-out c = record { sfits = omega (arith, time-range _ _ (sym c.in-Value.ensures)) }
+overflow_cast-out c = record { sfits = omega (arith, time-range _ _ (sym c.in-Ok.ensures)) }
