@@ -1,6 +1,6 @@
 -- What the definitions mean, in document 01's words: the nearest unit of a float, and that what was taken is in range. Assumes
 -- nothing.
-use mathlib.Core.Path.{◌≡◌, refl, sym, ◌∙◌, ap}
+use mathlib.Core.Path.{◌≡◌, refl, ◌∙◌, ap}
 use mathlib.Core.Bool.{Bool, true, false, cond, ◌&&◌}
 use Prim.Native.Nat.{ℕ, ◌*◌, ◌≤◌}
 use native.Mathlib.Omega.{arith}
@@ -11,7 +11,6 @@ use lib.Ieee.{Float, nan, inf, fin, up, down}
 use lib.Ieee.Fits.{down_pos}
 use Rattle.laws.specs.Parts.{P}
 use Rattle.quantity.specs.Quantities.{in_range}
-use Rattle.quantity.specs.declared.quantities.Tenths.{Tenths}
 use Rattle.quantity.specs.declared.quantities.Hundredths.{Hundredths}
 use Rattle.quantity.specs.declared.quantities.Reading.{Reading}
 use Rattle.quantity.specs.declared.quantities.Reading.TheVariants.{Level, Limit, Missing}
@@ -22,6 +21,7 @@ use Rattle.intake.specs.Times.{in_time, time_of}
 use Rattle.intake.proofs.Nearest.{IsNearest, is-nearest, nearest-unique}
 use Rattle.laws.proofs.Tests.{clash}
 use Rattle.std.specs.Prelude.{Ok, Err}
+use Rattle.intake.specs.declared.singles.Taken.{Taken}
 
 -- ---- "the tenth nearest its exact binary value, a tie going to the greater": 2 t - 1 <= 2 scale value < 2 t + 1, and no other t
 
@@ -31,28 +31,23 @@ float-nearest scale s m e = is-nearest s (scale * (m * up e)) (down e) (down_pos
 pub float-only : (scale : ℕ) (s : Bool) (m : ℕ) (e t : ℤ) → IsNearest s (scale * (m * up e)) (down e) t → t ≡ nearest scale s m e
 float-only scale s m e t h = nearest-unique s (scale * (m * up e)) (down e) t (down_pos e) h
 
--- two constructors are never equal
 -- ---- what was taken is in range
 
-by-range : (b limit : Bool) (t : ℤ) (v : Tenths) (l : Bool) → cond b (Ok (taken t limit)) (Err BandRange) ≡ Ok (record { value = v; limit = l })
-    → (b ≡ true) × (t ≡ v.0)
-by-range true limit t v l e = (refl, cc)
-by-range false limit t v l e = clash cc
+by-range : (b limit : Bool) (t : ℤ) (x : Taken) → cond b (Ok (taken t limit)) (Err BandRange) ≡ Ok x → in_range t ≡ b → in_range x.value.0 ≡ true
+by-range true limit t x e f = let g : x ≡ taken t limit = cc in ap (λ (y : Taken). in_range y.value.0) g ∙ f
+by-range false limit t x e f = clash cc
 
-float-range : (limit : Bool) (x : Float) (v : Tenths) (l : Bool) → float_taken limit x ≡ Ok (record { value = v; limit = l }) → in_range v.0 ≡ true
+float-range : (limit : Bool) (x : Float) (y : Taken) → float_taken limit x ≡ Ok y → in_range y.value.0 ≡ true
 unfolding float_taken
-float-range limit nan v l e = clash cc
-float-range limit (inf s) v l e = clash cc
-float-range limit (fin s m k) v l e =
-    let t = nearest 10 s m k in
-    let r = by-range (in_range t) limit t v l e in
-    ap in_range (sym r.1) ∙ r.0
+float-range limit nan y e = clash cc
+float-range limit (inf s) y e = clash cc
+float-range limit (fin s m k) y e = let t = nearest 10 s m k in by-range (in_range t) limit t y e refl
 
-pub taken-range : (r : Reading) (v : Tenths) (l : Bool) → taken_of r ≡ Ok (record { value = v; limit = l }) → in_range v.0 ≡ true
+pub taken-range : (r : Reading) (x : Taken) → taken_of r ≡ Ok x → in_range x.value.0 ≡ true
 unfolding taken_of
-taken-range (Level x) v l e = float-range false x v l e
-taken-range (Limit x) v l e = float-range true x v l e
-taken-range Missing v l e = clash cc
+taken-range (Level x) y e = float-range false x y e
+taken-range (Limit x) y e = float-range true x y e
+taken-range Missing y e = clash cc
 
 by-time : (b : Bool) (t : ℤ) (h : Hundredths) → cond b (Ok (record { 0 = P t })) (Err TimeRange) ≡ Ok h
     → (b ≡ true) × (P t ≡ h.0)

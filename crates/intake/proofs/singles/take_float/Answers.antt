@@ -18,7 +18,7 @@ held : (c : In-Units) → to_z w32 (of_z w32 (value c)) ≡ value c
 held c = search rules
 
 rounded : (c : In-Units) → Units (value c) ≡ whole_of 10 c.args.x
-rounded c = sym c.in-Units.is ∙ c.round-whole.ensures
+rounded c = sym c.in-Units.is ∙ c.round.ensures
 
 pub returns-then-in_range : goal.returns-then-in_range
 returns-then-in_range c = taken_in _ _ _ _ _ (held (goal.at.returns-then-in_range c).In-Units) (sym c.in_range.ensures ∙ c.if-in_range.true) refl (rounded (goal.at.returns-then-in_range c).In-Units)
@@ -27,7 +27,7 @@ pub returns-else-in_range : goal.returns-else-in_range
 returns-else-in_range c = taken_out _ _ _ _ _ (held (goal.at.returns-else-in_range c).In-Units) (sym c.in_range.ensures ∙ c.if-in_range.false) refl (rounded (goal.at.returns-else-in_range c).In-Units)
 
 pub returns-in-Beyond : goal.returns-in-Beyond
-returns-in-Beyond c = ap (taken_by _) (sym c.in-Beyond.is ∙ c.round-whole.ensures) ∙ taken-by _ _
+returns-in-Beyond c = ap (taken_by _) (sym c.in-Beyond.is ∙ c.round.ensures) ∙ taken-by _ _
 
 pub returns-in-NotFinite : goal.returns-in-NotFinite
-returns-in-NotFinite c = ap (taken_by _) (sym c.in-NotFinite.is ∙ c.round-whole.ensures) ∙ taken-by _ _
+returns-in-NotFinite c = ap (taken_by _) (sym c.in-NotFinite.is ∙ c.round.ensures) ∙ taken-by _ _
