@@ -12,24 +12,22 @@ use vectors::numbers::Case;
 // Feeds what was read, and answers each line that it ends.
 fn take(rt: &impl Print, case: Case, bytes: &[u8]) -> Case {
     let mut now = case;
-    for i in 0..bytes.len() {
-        let b = bytes[i];
-        if b == b'\n' {
+    for b in bytes {
+        if *b == b'\n' {
             answers::answer(rt, now);
             now = numbers::empty();
         } else {
-            now = numbers::fed(now, b);
+            now = numbers::fed(now, *b);
         }
     }
     now
 }
 
-// A proved loop has to end, so this one counts its reads down from a number that no run uses up.
+// A proved loop has to end, so this one counts its reads up to a number that no run uses up.
 fn main(rt: HostRuntime) {
     let mut buf = [0; 65536];
     let mut case = numbers::empty();
-    let mut turns = u32::MAX;
-    while turns > 0 {
+    for _ in 0..u32::MAX {
         let Ok(n) = rt.stdin().read(&mut buf) else {
             return;
         };
@@ -37,6 +35,5 @@ fn main(rt: HostRuntime) {
             return;
         }
         case = take(&rt, case, &buf[..n]);
-        turns -= 1;
     }
 }

@@ -1,5 +1,5 @@
 // The list of a case: tenths, or readings by their marks and floats.
-ghost use Rattle.std.specs.Prelude.{◌≤◌};
+ghost use Rattle.std.specs.Prelude.{◌≤◌, IfSome};
 
 use crate::numbers::{Case, float, natural, signed};
 
@@ -18,22 +18,25 @@ pub struct List {
     pub floats: [f32; 144],
 }
 
-// The layout of a call's lines. A call without a list finds one of length 0 past the end of every line.
-fn layout_of(call: u32) -> Layout
-    ensures { result.list ≤ 104 }
+const NO_LIST: List = List {
+    tenths: [0; 144],
+    marks: [0; 144],
+    floats: [0.0; 144],
+};
+
+// The layout of a call's lines, if it has a list.
+fn layout_of(call: u32) -> Option<Layout>
+    ensures { IfSome result (λ l. l.list ≤ 104) }
 {
     match call {
-        1 => Layout { length: 2, list: 4 },
-        3 => Layout { length: 2, list: 3 },
-        8 => Layout { length: 1, list: 3 },
-        9 => Layout { length: 1, list: 2 },
-        10 => Layout { length: 1, list: 3 },
-        11 => Layout { length: 2, list: 3 },
-        12 => Layout { length: 2, list: 6 },
-        _ => Layout {
-            length: 104,
-            list: 104,
-        },
+        1 => Some(Layout { length: 2, list: 4 }),
+        3 => Some(Layout { length: 2, list: 3 }),
+        8 => Some(Layout { length: 1, list: 3 }),
+        9 => Some(Layout { length: 1, list: 2 }),
+        10 => Some(Layout { length: 1, list: 3 }),
+        11 => Some(Layout { length: 2, list: 3 }),
+        12 => Some(Layout { length: 2, list: 6 }),
+        _ => None,
     }
 }
 
@@ -56,12 +59,16 @@ fn list_from(case: Case, from: usize) -> List
 }
 
 pub fn list_of(case: Case) -> List {
-    let layout = layout_of(natural(case, 0));
-    list_from(case, layout.list)
+    match layout_of(natural(case, 0)) {
+        Some(layout) => list_from(case, layout.list),
+        None => NO_LIST,
+    }
 }
 
 // The stated length of the list.
 pub fn length_of(case: Case) -> usize {
-    let layout = layout_of(natural(case, 0));
-    natural(case, layout.length) as usize
+    match layout_of(natural(case, 0)) {
+        Some(layout) => natural(case, layout.length) as usize,
+        None => 0,
+    }
 }

@@ -1,10 +1,6 @@
 // The numbers of a case line, read byte by byte.
 use quantity::signed::less;
 
-// Stands for what a call returns where a line is no case: an unknown call, a length over 144, more than 800 places. No C function
-// returns it.
-pub const NO_CASE: u32 = 4294967295;
-
 #[derive(Clone, Copy)]
 pub struct Case {
     pub sizes: [u64; 104],
@@ -38,12 +34,8 @@ pub fn fed(case: Case, b: u8) -> Case {
         return next;
     }
     let size = next.sizes[at];
-    if size < 1000000000000 {
-        if b'0' <= b {
-            if b <= b'9' {
-                next.sizes[at] = size * 10 + (b - b'0') as u64;
-            }
-        }
+    if size < 1000000000000 && b.is_ascii_digit() {
+        next.sizes[at] = size * 10 + u64::from(b - b'0');
     }
     next
 }

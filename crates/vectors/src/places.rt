@@ -27,14 +27,10 @@ fn numbers_of(sets: &[u16; 800]) -> [i32; 800] {
 fn end_of(places: &[i32]) -> usize
     ensures { result ≤ length places.now }
 {
-    let mut end = places.len();
-    while 0 < end {
-        if places[end - 1] != UNWRITTEN {
-            return end;
-        }
-        end -= 1;
+    match places.iter().rposition(|z| *z != UNWRITTEN) {
+        Some(last) => last + 1,
+        None => 0,
     }
-    end
 }
 
 // A blank and the number of a place, or a dot where it was not written.
@@ -48,9 +44,8 @@ fn print_place(rt: &impl Print, z: i32) {
 
 // Every place up to the last written one, so that a number in a wrong place shows.
 fn print_places(rt: &impl Print, places: &[i32]) {
-    let end = end_of(places);
-    for i in 0..end {
-        print_place(rt, places[i]);
+    for z in &places[..end_of(places)] {
+        print_place(rt, *z);
     }
 }
 

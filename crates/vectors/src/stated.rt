@@ -1,7 +1,7 @@
 // The calls with a list once more, with what lies past the stated length: the library is handed all 16 tenths or 48 readings of a
 // line and the length beside them, where the C functions are lent no more than the length.
 use crate::lists::{List, length_of};
-use crate::numbers::{Case, NO_CASE, natural, signed};
+use crate::numbers::{Case, natural, signed};
 use crate::places::UNWRITTEN;
 use door::{readings_from, set_from, side_of};
 use kinds::{Kind, kind_of};
@@ -9,23 +9,8 @@ use products::{Cover, Grade};
 use quantity::{BandSet, Decibels, Reading, Refusal};
 use rating::Sheet;
 
-// What is compared of an answer: 0 and its first number, or the refusal's number and what an unwritten place holds.
-#[derive(Clone, Copy)]
-struct Said {
-    number: u32,
-    first: i32,
-}
-
-fn answered(first: i32) -> Said {
-    Said { number: 0, first }
-}
-
-fn refused(number: u32) -> Said {
-    Said {
-        number,
-        first: UNWRITTEN,
-    }
-}
+// What is compared of an answer: its first number, or the refusal's.
+type Said = Result<i32, u32>;
 
 // All tenths of the line as a set of the stated length.
 fn set_of(case: Case, list: List, marks: u32) -> BandSet {
@@ -40,39 +25,32 @@ fn readings_of(list: List) -> [Reading; 48] {
     readings_from(&list.marks, &list.floats)
 }
 
-fn told(answer: Result<i32, Refusal>) -> Said {
-    match answer {
-        Ok(first) => answered(first),
-        Err(refusal) => refused(refusal.number()),
-    }
-}
-
 fn said_rated(rated: Result<Sheet, Refusal>) -> Said {
-    told(rated.map(|sheet| sheet.rating.0))
+    rated.map(|sheet| sheet.rating.0).map_err(Refusal::number)
 }
 
 fn said_intake(intake: Result<BandSet, Refusal>) -> Said {
-    told(intake.map(|set| set.values[0].0))
+    intake.map(|set| set.values[0].0).map_err(Refusal::number)
 }
 
 fn said_cover(cover: Result<Cover, Refusal>) -> Said {
-    told(cover.map(|cover| cover.improvement.0))
+    cover.map(|cover| cover.improvement.0).map_err(Refusal::number)
 }
 
 fn said_graded(graded: Result<Grade, Refusal>) -> Said {
-    told(graded.map(|grade| grade.rating.0))
+    graded.map(|grade| grade.rating.0).map_err(Refusal::number)
 }
 
 fn rate(case: Case, list: List) -> Said {
     match kind_of(natural(case, 1)) {
-        None => refused(1),
+        None => Err(1),
         Some(kind) => said_rated(desk::rate(kind, set_of(case, list, natural(case, 3)))),
     }
 }
 
 fn rate_readings(case: Case, list: List) -> Said {
     match kind_of(natural(case, 1)) {
-        None => refused(1),
+        None => Err(1),
         Some(kind) => said_rated(desk::rate_readings(
             kind,
             readings_of(list),
@@ -83,29 +61,27 @@ fn rate_readings(case: Case, list: List) -> Said {
 
 // The lift list, in the first places of a list that is looked at no further.
 fn lift_into(case: Case, kind: Kind, set: BandSet, sets: &mut [u16]) -> Said {
-    let places = natural(case, 5) as usize;
-    if sets.len() < places {
-        return refused(NO_CASE);
-    }
-    match desk::lift(kind, set, Decibels(signed(case, 4)), &mut sets[0..places]) {
-        Ok(n) => answered(n as i32),
-        Err(refusal) => refused(refusal.number()),
+    let places = sets.len().min(natural(case, 5) as usize);
+    match desk::lift(kind, set, Decibels(signed(case, 4)), &mut sets[..places]) {
+        Ok(n) => Ok(n as i32),
+        Err(refusal) => Err(refusal.number()),
     }
 }
 
 fn lift(case: Case, list: List) -> Said {
     let mut sets = [0u16; 800];
     match kind_of(natural(case, 1)) {
-        None => refused(1),
+        None => Err(1),
         Some(kind) => lift_into(case, kind, set_of(case, list, natural(case, 3)), &mut sets),
     }
 }
 
+// On a refusal the first place is not written.
 fn same(said: Said, returned: u32, first: i32) -> bool {
-    if said.number != returned {
-        return false;
+    match said {
+        Ok(number) => returned == 0 && number == first,
+        Err(refusal) => returned == refusal && first == UNWRITTEN,
     }
-    said.first == first
 }
 
 // Whether the library, asked so, says what the C function returned and put first; true for a call without a list.
