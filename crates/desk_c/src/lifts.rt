@@ -4,7 +4,7 @@ ghost use Rattle.lift.specs.Calls.{answer_of, count_answer};
 ghost use Rattle.door.specs.Answers.{returned, held};
 ghost use Rattle.desk_c.specs.Lifts.{list_by, lift_answer, lift_held};
 
-use door::set_from;
+use door::{give, set_from};
 use kinds::{Kind, kind_of};
 use quantity::{BandSet, Decibels};
 
@@ -30,11 +30,7 @@ fn give_lift(kind: Kind, set: BandSet, target: Decibels, list: &mut [u16], out: 
         return number_alone(kind, set, target);
     }
     match desk::lift(kind, set, target, list) {
-        Ok(n) => {
-            let count = n as i32;
-            out[0] = count;
-            0
-        }
+        Ok(n) => give(out, &[n as i32]),
         Err(refusal) => refusal.number(),
     }
 }

@@ -5,6 +5,8 @@ ghost use Rattle.door.specs.Answers.{returned, held};
 ghost use Rattle.desk_c.specs.Lines.{line_answer, line_held, is_set, block_answer, block_held};
 ghost use Rattle.laws.specs.Extremes.{one_if};
 
+use door::give;
+
 // The answer to one line, from place `at` of `out`, and its length.
 #[unsafe(no_mangle)]
 pub extern "C" fn imbrolt_answer_line(
@@ -21,10 +23,7 @@ pub extern "C" fn imbrolt_answer_line(
         return 10;
     }
     match desk::answer_line(line, out, at) {
-        Ok(n) => {
-            wrote[0] = n as u64;
-            0
-        }
+        Ok(n) => give(wrote, &[n as u64]),
         Err(refusal) => refusal.number(),
     }
 }
@@ -59,8 +58,12 @@ pub extern "C" fn imbrolt_answer_block(
         return 10;
     }
     let done = desk::answer_block(input, out, is_set(skipping), is_set(last));
-    progress[0] = done.used as u64;
-    progress[1] = done.wrote as u64;
-    progress[2] = bit_of(done.skipping);
-    0
+    give(
+        progress,
+        &[
+            done.used as u64,
+            done.wrote as u64,
+            bit_of(done.skipping),
+        ],
+    )
 }

@@ -15,7 +15,7 @@ use quantity::{BandSet, Decibels, Refusal};
 use rating::Sheet;
 
 // An answer's numbers, from the start of the lent array; 10 where they do not fit.
-pub fn give(out: &mut [i32], answer: &[i32]) -> u32
+pub fn give<T: Copy>(out: &mut [T], answer: &[T]) -> u32
     ensures value { result ≡ returned (Answer.numbers answer.now) (length out.old) }
     ensures out_after { out.new ≡ held (Answer.numbers answer.now) out.old }
 {

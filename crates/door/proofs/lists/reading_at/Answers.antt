@@ -1,22 +1,23 @@
 -- `door::lists::reading_at` meets its contract. Assumes nothing.
-use mathlib.Core.Path.{◌∙◌, ap}
-use Prim.Native.Nat.{ℕ}
 use native.Mathlib.Omega.{arith}
-use lib.Ieee.{nan}
-use lib.ListN.{get_or}
-use Rattle.door.specs.Lists.{reading_from}
-use Rattle.door.proofs.Listing.{reading-here, reading-past-values, reading-past-marks}
+use borrow.Author.Tests.{lt-ltb, le-ltb}
+use lib.ListN.{length}
+use Rattle.door.specs.Lists.{reading_at}
 use Rattle.door.proofs.lists.reading_at.Goals as goal
+use Rattle.door.proofs.lists.reading_at.Goals.{else-i-marks-via-then-i-marks+else-i-values, else-i-marks-via-else-i-marks}
 
 pub returns-then-i-values : goal.returns-then-i-values
+unfolding reading_at
 returns-then-i-values c =
     let a = c.args in
-    c.reading_from.ensures
-    ∙ ap (λ (m : ℕ). reading_from m (get_or a.values.now a.i nan)) c.wide.ensures
-    ∙ reading-here a.marks.now a.values.now a.i (omega arith) (omega arith)
-
-pub returns-else-i-values : goal.returns-else-i-values
-returns-else-i-values c = reading-past-values c.args.marks.now c.args.values.now c.args.i (omega arith) (omega arith)
+    rw (lt-ltb a.i (length a.marks.now) (omega arith), lt-ltb a.i (length a.values.now) (omega arith)) cc
 
 pub returns-else-i-marks : goal.returns-else-i-marks
-returns-else-i-marks c = reading-past-marks _ _ _ c.if-i-marks.false
+unfolding reading_at
+returns-else-i-marks c =
+    let a = c.args in
+    elim c.else-i-marks.branch [
+      | else-i-marks-via-then-i-marks+else-i-values w ↦
+          rw (lt-ltb a.i (length a.marks.now) (omega arith), le-ltb a.i (length a.values.now) (omega arith))
+      | else-i-marks-via-else-i-marks w ↦ rw (le-ltb a.i (length a.marks.now) (omega arith))
+    ]
