@@ -116,71 +116,76 @@ module _ (k : Kind) (s : BandSet) (acc : accepted s (bands_of k) ≡ true) where
     limit = e i;
   }
 
--- ---- the same, from what the code has fetched
-module _ (k : Kind) (s : BandSet) (acc : accepted s (bands_of k) ≡ true) where
-  -- the plain values of the set: a kind's are in range, and levels counted from them are the set's
-  module _ (values : List ℤ) (plain : (i : ℕ) → i < 16 → plain_at values i ≡ band_of s i) where
-    pub ranged : Ranged values (bands_of k)
-    ranged i h = ap in_range (plain i (omega (arith, most k s acc))) ∙ band-in s (bands_of k) acc i h
+-- ---- the same, from what the code has fetched: the numbers of the kind, and the plain values of an accepted set
+pub record Fetched (k : Kind) (s : BandSet) (values : List ℤ) (m : Numbers) : Type 0 where
+  pub acc : accepted s (bands_of k) ≡ true
+  pub numbers : m ≡ numbers_of k
+  pub plain : (i : ℕ) → i < 16 → plain_at values i ≡ band_of s i
 
-    pub of-set : {entries levels : List ℕ} → Levels (airborne k) (plain_at values) entries (bands_of k) levels
-        → Levels (airborne k) (band_of s) entries (bands_of k) levels
-    of-set {entries} l = record {
+module _ {k : Kind} {s : BandSet} {values : List ℤ} {m : Numbers} (f : Fetched k s values m) where
+  pub ranged : Ranged values (bands_of k)
+  ranged i h = ap in_range (f.plain i (omega (arith, most k s f.acc))) ∙ band-in s (bands_of k) f.acc i h
+
+  pub count : Count m.bands
+  unfolding numbers_of
+  count = subst (λ (n : Numbers). Count n.bands) (sym f.numbers) (count-of k)
+
+  near : m.origin.0 < 200
+  near = subst (λ (n : Numbers). n.origin.0 < 200) (sym f.numbers) (sound-of k).near
+
+  module _ {entries levels : List ℕ} (l : Levels (airborne k) (plain_at values) entries (bands_of k) levels) where
+    -- levels counted from the plain values are the set's
+    of-set : Levels (airborne k) (band_of s) entries (bands_of k) levels
+    of-set = record {
       whole = l.whole;
-      each = λ i h. l.each i h ∙ ap (λ (x : ℤ). level_by (airborne k) x (at entries i)) (plain i (omega (arith, most k s acc)));
+      each = λ i h. l.each i h ∙ ap (λ (x : ℤ). level_by (airborne k) x (at entries i)) (f.plain i (omega (arith, most k s f.acc)));
     }
 
-  module _ (m : Numbers) (e : m ≡ numbers_of k) where
-    pub count : Count m.bands
-    unfolding numbers_of
-    count = subst (λ (n : Numbers). Count n.bands) (sym e) (count-of k)
+    -- the levels found by fitting entries are small, and so is what is weighed of them
+    pub low : ((i : ℕ) → i < 16 → Entries (airborne k) (at entries i)) → (i : ℕ) → i < m.bands → at levels i ≤ 4500
+    low fits i h =
+        levels-most (airborne k) s entries (bands_of k) (most k s f.acc) f.acc fits levels of-set i (omega (arith, h, bands-are k m f.numbers))
 
-    pub near : m.origin.0 < 200
-    near = subst (λ (n : Numbers). n.origin.0 < 200) (sym e) (sound-of k).near
+    pub weighed : ((i : ℕ) → i < 16 → Entries (airborne k) (at entries i)) → {least sum : ℕ} → WeighedOf (at levels) m.bands least sum
+        → Summed sum × (least < 5000)
+    weighed fits w =
+        let some : 1 ≤ m.bands = count-some count in
+        let b = energies-bounds (at levels) m.bands count in (
+          (omega (arith, w.sum_is, b.0), omega (arith, w.sum_is, b.1)),
+          omega (arith, w.least-is, least-below (at levels) m.bands 0 some, low fits 0 some),
+        )
 
-    module _ {entries levels : List ℕ} (l : Levels (airborne k) (band_of s) entries (bands_of k) levels) where
-      -- the levels found by fitting entries are small, and so is what is weighed of them
-      pub low : ((i : ℕ) → i < 16 → Entries (airborne k) (at entries i)) → (i : ℕ) → i < m.bands → at levels i ≤ 4500
-      low fits i h =
-          levels-most (airborne k) s entries (bands_of k) (most k s acc) acc fits levels l i (omega (arith, h, bands-are k m e))
+    -- a term by what is weighed is the set's
+    pub term-by : (p : ℕ) {least sum : ℕ} {d : ℤ} → WeighedOf (at levels) m.bands least sum
+        → d ≡ half_even (term_by m.airborne m.origin.0 least (u sum) p)
+        → d ≡ half_even (term_of m.airborne m.origin.0 (level_at (airborne k) s entries) m.bands p)
+    term-by p w d =
+        d
+        ∙ ap₂ (λ (least sum : ℕ). half_even (term_by m.airborne m.origin.0 least (u sum) p)) w.least-is w.sum_is
+        ∙ ap half_even (term-alike m.airborne m.origin.0 (at levels) (level_at (airborne k) s entries) m.bands p (count-some count)
+        (λ i h. of-set.each i (omega (arith, h, bands-are k m f.numbers))))
 
-      pub weighed : ((i : ℕ) → i < 16 → Entries (airborne k) (at entries i)) → {least sum : ℕ} → WeighedOf (at levels) m.bands least sum
-          → Summed sum × (least < 5000)
-      weighed fits w =
-          let some : 1 ≤ m.bands = count-some count in
-          let b = energies-bounds (at levels) m.bands count in (
-            (omega (arith, w.sum_is, b.0), omega (arith, w.sum_is, b.1)),
-            omega (arith, w.least-is, least-below (at levels) m.bands 0 some, low fits 0 some),
-          )
+  -- what the search finds by the levels of the reference curve, it finds of the set
+  pub sought-by : {levels : List ℕ} {p shifts : ℕ} → Levels (airborne k) (plain_at values) (entries_of k) (bands_of k) levels
+      → SoughtBy k (at levels) m.bands m.limit p shifts → Sought k s p shifts
+  unfolding numbers_of
+  sought-by {levels} {p} {shifts} l w =
+      let g : ℕ → ℕ = level_at (airborne k) s (entries_of k) in
+      let same : (i : ℕ) → i < bands_of k → at levels i ≡ g i = (of-set l).each in
+      settled-alike (at levels) g (bands_of k) (limit_of k) _ _ p shifts same
+      (ap (λ (t : ℕ). (t + start_add k) / (10 * bands_of k)) (sum_same (at levels) g (bands_of k) same))
+      (subst (λ (n : Numbers). SoughtBy k (at levels) n.bands n.limit p shifts) f.numbers w)
 
-      -- a term by what is weighed is the set's
-      pub term-by : (p : ℕ) {least sum : ℕ} {d : ℤ} → WeighedOf (at levels) m.bands least sum
-          → d ≡ half_even (term_by m.airborne m.origin.0 least (u sum) p)
-          → d ≡ half_even (term_of m.airborne m.origin.0 (level_at (airborne k) s entries) m.bands p)
-      term-by p w d =
-          d
-          ∙ ap₂ (λ (least sum : ℕ). half_even (term_by m.airborne m.origin.0 least (u sum) p)) w.least-is w.sum_is
-          ∙ ap half_even (term-alike m.airborne m.origin.0 (at levels) (level_at (airborne k) s entries) m.bands p (count-some count)
-          (λ i h. l.each i (omega (arith, h, bands-are k m e))))
-
-    -- what the search finds by the levels of the reference curve, it finds of the set
-    pub sought-by : {levels : List ℕ} {p shifts : ℕ} → Levels (airborne k) (band_of s) (entries_of k) (bands_of k) levels
-        → SoughtBy k (at levels) m.bands m.limit p shifts → Sought k s p shifts
-    unfolding numbers_of
-    sought-by {levels} {p} {shifts} l w =
-        let g : ℕ → ℕ = level_at (airborne k) s (entries_of k) in
-        settled-alike (at levels) g (bands_of k) (limit_of k) _ _ p shifts l.each
-        (ap (λ (t : ℕ). (t + start_add k) / (10 * bands_of k)) (sum_same (at levels) g (bands_of k) l.each))
-        (subst (λ (n : Numbers). SoughtBy k (at levels) n.bands n.limit p shifts) e w)
+  module _ {p shifts : ℕ} (found : Sought k s p shifts) where
+    -- what is asked of the position found and of the origin, wherever both go
+    pub bounds : (p < 500) × (m.origin.0 < 200)
+    bounds = (omega (arith, start-below k s f.acc, found.distance), near)
 
     -- the rating at the position found
-    pub rating-made : {p shifts : ℕ} {r : ℤ} → Sought k s p shifts → r ≡ rating_by m.airborne m.origin.0 p → r ≡ rating_of k (band_of s)
+    pub rating-made : {r : ℤ} → r ≡ rating_by m.airborne m.origin.0 p → r ≡ rating_of k (band_of s)
     unfolding numbers_of
-    rating-made {p} {shifts} found w =
-        w ∙ ap (λ (n : Numbers). rating_by n.airborne n.origin.0 p) e ∙ sym (rating-is k s acc p shifts found)
-
-  pub position-small : {p shifts : ℕ} → Sought k s p shifts → p < 500
-  position-small w = omega (arith, start-below k s acc, w.distance)
+    rating-made w =
+        w ∙ ap (λ (n : Numbers). rating_by n.airborne n.origin.0 p) f.numbers ∙ sym (rating-is k s f.acc p shifts found)
 
 -- the second term: given for airborne, absent for impact
 pub data SecondAt (k : Kind) (m : Numbers) (s : BandSet) (p : ℕ) : Option Decibels → Type 0 where
@@ -200,11 +205,11 @@ unfolding numbers_of
 second_is k s acc p r t (given d e h) = ap (λ (z : ℤ). Some (decibels z)) h ∙ second-given k s acc p r e
 second_is k s acc p r t (absent e) = second-absent k s acc p r e
 
-pub sheet-made : (k : Kind) (s : BandSet) → accepted s (bands_of k) ≡ true → (m : Numbers) → m ≡ numbers_of k → (p : ℕ) (r : Sheet)
+pub sheet-made : {k : Kind} {s : BandSet} {values : List ℤ} {m : Numbers} → Fetched k s values m → (p : ℕ) (r : Sheet)
     → Sought k s p r.shifts → r.limit ≡ any_to (bit s.marks) (bands_of k) → MadeAt k s p r m → r ≡ sheet_of k s
 unfolding numbers_of
-sheet-made k s acc m e p r found limit w =
-    let v : MadeAt k s p r (numbers_of k) = subst (MadeAt k s p r) e w in
-    let q : rating_of k (band_of s) ≡ rating_by (airborne k) (rating_at k) p = rating-is k s acc p r.shifts found in
-    sheet-is k s acc r (v.rating ∙ sym q) (v.first ∙ first-is k s acc p q) (second_is k s acc p q r.second v.second)
-    (sym (shifts-is k s acc p r.shifts found)) limit
+sheet-made {k} {s} f p r found limit w =
+    let v : MadeAt k s p r (numbers_of k) = subst (MadeAt k s p r) f.numbers w in
+    let q : rating_of k (band_of s) ≡ rating_by (airborne k) (rating_at k) p = rating-is k s f.acc p r.shifts found in
+    sheet-is k s f.acc r (v.rating ∙ sym q) (v.first ∙ first-is k s f.acc p q) (second_is k s f.acc p q r.second v.second)
+    (sym (shifts-is k s f.acc p r.shifts found)) limit

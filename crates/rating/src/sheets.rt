@@ -12,7 +12,7 @@ ghost use Rattle.rating.specs.Sheets.{sheet_of, rated_of, accept_of, single_of};
 use curve::Position;
 use curve::levels::{Accepted, all_in_range, energies, least, plain, settle, sum};
 use energy::{RatingTables, tables};
-use kinds::{Kind, bands_of, by_curve, by_first, by_second, marked, numbers_of, start_of};
+use kinds::{Kind, Numbers, bands_of, by_curve, by_first, by_second, marked, numbers_of, start_of};
 use quantity::signed::less;
 use quantity::{BandSet, Decibels, Refusal, Tenths};
 
@@ -55,25 +55,25 @@ fn weigh(levels: &[u32; 16], bands: usize, tables: RatingTables) -> Weighed
 }
 
 // The rating at position p.
-fn rating_at(p: Position, airborne: bool, origin: Position) -> Decibels
-    requires { (p.0 < 500) × (origin.0 < 200) }
-    ensures { result.0 ≡ rating_by airborne origin.0 p.0 }
+fn rating_at(n: &Numbers, p: Position) -> Decibels
+    requires { (p.0 < 500) × (n.now.origin.0 < 200) }
+    ensures { result.0 ≡ rating_by n.now.airborne n.now.origin.0 p.0 }
 {
-    if airborne {
-        Decibels(less(p.0, origin.0))
+    if n.airborne {
+        Decibels(less(p.0, n.origin.0))
     } else {
-        Decibels(less(origin.0, p.0))
+        Decibels(less(n.origin.0, p.0))
     }
 }
 
 // A term at position p, in tenths, by the least level and the step of the energies above it.
-fn term_at(least: u32, step: u32, p: Position, airborne: bool, origin: Position) -> Tenths
-    requires { (p.0 < 500) × (origin.0 < 200) × (least < 5000) × (step < 500) }
-    ensures { result.0 ≡ term_by airborne origin.0 least step p.0 }
+fn term_at(n: &Numbers, p: Position, least: u32, step: u32) -> Tenths
+    requires { (p.0 < 500) × (n.now.origin.0 < 200) × (least < 5000) × (step < 500) }
+    ensures { result.0 ≡ term_by n.now.airborne n.now.origin.0 least step p.0 }
 {
     let height = p.tenths();
-    let nought = origin.tenths();
-    if airborne {
+    let nought = n.origin.tenths();
+    if n.airborne {
         Tenths(less(least + nought, 200 + step + height))
     } else {
         Tenths(less(1350 + step + height, least + nought))
@@ -81,20 +81,12 @@ fn term_at(least: u32, step: u32, p: Position, airborne: bool, origin: Position)
 }
 
 // A term at position p, by what was weighed, rounded to a whole decibel.
-fn term_of(
-    w: Weighed,
-    airborne: bool,
-    origin: Position,
-    p: Position,
-    tables: RatingTables,
-) -> Decibels
+fn term_of(n: &Numbers, p: Position, w: Weighed, tables: RatingTables) -> Decibels
     requires summed { Summed w.sum }
-    requires least_bound { (w.least < 5000) × (origin.0 < 200) × (p.0 < 500) }
-    ensures { result.0 ≡ half_even (term_by airborne origin.0 w.least (u w.sum) p.0) }
+    requires bounds { (p.0 < 500) × (n.now.origin.0 < 200) × (w.least < 5000) }
+    ensures { result.0 ≡ half_even (term_by n.now.airborne n.now.origin.0 w.least (u w.sum) p.0) }
 {
-    let step = tables.level(w.sum);
-    let tenths = term_at(w.least, step, p, airborne, origin);
-    tenths.rounded()
+    term_at(n, p, w.least, tables.level(w.sum)).rounded()
 }
 
 // The sheet of an accepted set, with the tables lent: whoever rates many sets lays them out once. It is handed on as the answer
@@ -107,36 +99,24 @@ pub fn sheet_of(kind: Kind, set: BandSet, tables: RatingTables) -> Result<Sheet,
     let values = plain(set);
     let by_curve = by_curve(kind, &values);
     let by_first = by_first(kind, &values);
-    let limit = marked(kind, set.marks);
     let accepted = sought(kind, &by_curve, n.bands, n.limit);
     let p = accepted.at;
-    let shifts = accepted.shifts;
-    let origin = n.origin;
-    let rating = rating_at(p, n.airborne, origin);
     let one = weigh(&by_first, n.bands, tables);
-    if n.airborne {
-        // both are weighed before either step is looked up, so that neither waits for the other
+    // both are weighed before either step is looked up, so that neither waits for the other
+    let second = if n.airborne {
         let by_second = by_second(kind, &values);
         let other = weigh(&by_second, n.bands, tables);
-        let first = term_of(one, n.airborne, origin, p, tables);
-        let second = Some(term_of(other, n.airborne, origin, p, tables));
-        Ok(Sheet {
-            rating,
-            first,
-            second,
-            shifts,
-            limit,
-        })
+        Some(term_of(&n, p, other, tables))
     } else {
-        let first = term_of(one, n.airborne, origin, p, tables);
-        Ok(Sheet {
-            rating,
-            first,
-            second: None,
-            shifts,
-            limit,
-        })
-    }
+        None
+    };
+    Ok(Sheet {
+        rating: rating_at(&n, p),
+        first: term_of(&n, p, one, tables),
+        second,
+        shifts: accepted.shifts,
+        limit: marked(kind, set.marks),
+    })
 }
 
 // Whether a set can be rated: 1 where its length is not the kind's, then 4 where a band is out of range.
@@ -162,8 +142,7 @@ fn rating_of(kind: Kind, set: BandSet) -> Decibels
     let values = plain(set);
     let by_curve = by_curve(kind, &values);
     let accepted = sought(kind, &by_curve, n.bands, n.limit);
-    let origin = n.origin;
-    rating_at(accepted.at, n.airborne, origin)
+    rating_at(&n, accepted.at)
 }
 
 // The rating alone, as `rate` gives it: no table of energies is laid out for it.
