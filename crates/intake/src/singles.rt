@@ -33,6 +33,7 @@ pub fn take_float(x: f32, limit: bool) -> Result<Taken, Refusal>
 }
 
 // A reading as a band value: a missing one is refused before its float could be.
+#[tactic(auto, unfolding(crate::specs::Taken::taken_of))]
 pub fn take_reading(reading: Reading) -> Result<Taken, Refusal>
     ensures { result ≡ taken_of reading }
 {
