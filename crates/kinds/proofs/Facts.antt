@@ -57,6 +57,9 @@ second-fit A1 = fitting true (second_of A1) refl tt
 second-fit I3 = fitting false (second_of I3) refl tt
 second-fit I1 = fitting false (second_of I1) refl tt
 
+-- what counting levels asks of a kind's entries
+pub ruleset fits = (entries_fit, first-fit, second-fit)
+
 pub add_small : (k : Kind) → start_add k < 2000
 add_small A3 = lit< tt
 add_small A1 = lit< tt

@@ -1,4 +1,3 @@
 -- Laws of the kinds.
 pub mod Numbered
 pub mod Facts
-mod Leveled

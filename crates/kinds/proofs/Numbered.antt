@@ -1,11 +1,11 @@
 -- Kinds by their numbers: a number is that of at most one kind, and each kind has one. Assumes nothing.
 use mathlib.Core.Path.{◌≡◌, refl, ap}
 use Prim.Native.Nat.{ℕ, zero, suc}
+use Rattle.std.specs.Prelude.{Some, None}
+use Rattle.std.proofs.lemmas.Option.{same_Some}
 use Rattle.kinds.specs.declared.kinds.Kind.{Kind}
 use Rattle.kinds.specs.declared.kinds.Kind.TheVariants.{A3, A1, I3, I1}
 use Rattle.kinds.specs.Kinds.{kind_of, kind_number}
-use Rattle.laws.proofs.Tests.{clash}
-use Rattle.std.specs.Prelude.{Some, None}
 
 -- a number that is none of the four
 pub unknown : (n : ℕ) → (n ≡ 0 → ⊥) → (n ≡ 1 → ⊥) → (n ≡ 2 → ⊥) → (n ≡ 3 → ⊥) → None ≡ kind_of n
@@ -22,12 +22,9 @@ kind-of-number A1 = refl
 kind-of-number I3 = refl
 kind-of-number I1 = refl
 
-same : {j k : Kind} → Some j ≡ Some k → j ≡ k
-same e = cc
-
 pub kind-number-of : (n : ℕ) (k : Kind) → kind_of n ≡ Some k → n ≡ kind_number k
-kind-number-of zero k e = ap kind_number (same e)
-kind-number-of (suc zero) k e = ap kind_number (same e)
-kind-number-of (suc (suc zero)) k e = ap kind_number (same e)
-kind-number-of (suc (suc (suc zero))) k e = ap kind_number (same e)
-kind-number-of (suc (suc (suc (suc n)))) k e = clash cc
+kind-number-of zero k e = ap kind_number (same_Some A3 k e)
+kind-number-of (suc zero) k e = ap kind_number (same_Some A1 k e)
+kind-number-of (suc (suc zero)) k e = ap kind_number (same_Some I3 k e)
+kind-number-of (suc (suc (suc zero))) k e = ap kind_number (same_Some I1 k e)
+kind-number-of (suc (suc (suc (suc n)))) k e = cc

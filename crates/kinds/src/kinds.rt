@@ -1,16 +1,18 @@
-// The four kinds. Each is a type that owns its band count, its sum limit and its reference entries, and
-// - START, what is added to the sum of the levels, so that over ten for each band it is the start of the curve method;
-// - ORIGIN, the position that rates 0 dB.
+// The four kinds. Each is a type that owns its numbers and its tables of entries, by the trait `RatingKind`; what is done with
+// them is written once, for any such type.
 //
 // An entry is what a band's value is counted from, so that a better band has a greater level and both signs are one theory:
 // for airborne a level is the value and an entry (24 dB less K), for impact an entry less the value (168 dB and K). A deficit
 // at position p is then 10 p less the level, and position p is p - 24 dB for airborne, 168 - p dB for impact.
-ghost use Rattle.std.specs.Prelude.{Bool, true, false, ◌≡◌, ℕ, ◌+◌, ◌*◌, ◌/◌, ◌%◌, ◌^◌, ◌<◌};
+//
+// The proofs unfold what the tables are computed from.
+#![tactic(auto, unfolding(crate::specs::Numbers::entries_of, crate::specs::Numbers::first_of, crate::specs::Numbers::second_of, crate::specs::Numbers::numbers_of, crate::specs::Kinds::reference_of, crate::specs::Kinds::references_of, crate::specs::Kinds::C, crate::specs::Kinds::spectra_c, crate::specs::Kinds::Ctr, crate::specs::Kinds::spectra_ctr, laws::specs::Lists::listed))]
+
+ghost use Rattle.std.specs.Prelude.{Bool, refl, ◌≡◌, ℕ, ◌+◌, ◌*◌, ◌/◌, ◌%◌, ◌^◌, ◌<◌};
 ghost use Rattle.kinds.specs.declared.kinds.Kind.{Kind};
 ghost use Rattle.laws.specs.Tests.{any_to, bit};
-ghost use Rattle.kinds.specs.Kinds.{bands_of, kind_of, kind_number};
-ghost use Rattle.kinds.specs.Numbers.{start_add, entries_of, first_of, second_of, numbers_of};
-ghost use Rattle.kinds.specs.Owned.{Owned, owned_a3, owned_a1, owned_i3, owned_i1};
+ghost use Rattle.kinds.specs.Kinds.{airborne, bands_of, limit_of, kind_of, kind_number};
+ghost use Rattle.kinds.specs.Numbers.{start_add, rating_at, entries_of, first_of, second_of, numbers_of};
 
 use curve::Position;
 
@@ -32,27 +34,32 @@ pub struct Numbers {
     pub entries: [u32; 16],
 }
 
-// What a kind owns. `kind` says which it is.
+// What a kind owns. `kind` says which of the four it is; before each constant stands its value in proofs.
 pub trait RatingKind {
     ghost kind: { Kind };
 
+    // How many bands it has.
     ghost BANDS: { ℕ };
-
-    ghost LIMIT: { ℕ };
-
-    ghost START: { ℕ };
-
-    ghost ORIGIN: { ℕ };
-
-    ghost AIRBORNE: { Bool };
 
     const BANDS: usize;
 
+    // The sum limit, in tenths.
+    ghost LIMIT: { ℕ };
+
     const LIMIT: u32;
+
+    // What is added to the sum of the levels, so that over ten for each band it is the start of the curve method.
+    ghost START: { ℕ };
 
     const START: u32;
 
+    // The position that rates 0 dB.
+    ghost ORIGIN: { ℕ };
+
     const ORIGIN: u32;
+
+    // Airborne, or impact.
+    ghost AIRBORNE: { Bool };
 
     const AIRBORNE: bool;
 
@@ -68,35 +75,37 @@ pub trait RatingKind {
     fn second() -> [u32; 16]
         ensures { result ≡ second_of kind };
 
-    ghost owned: { Owned kind BANDS LIMIT START ORIGIN AIRBORNE };
+    // The constants are those of the definitions.
+    ghost owned: { (BANDS ≡ bands_of kind)
+        × (LIMIT ≡ limit_of kind)
+        × (START ≡ start_add kind)
+        × (ORIGIN ≡ rating_at kind)
+        × (AIRBORNE ≡ airborne kind) };
 }
 
 // Airborne thirds.
-#[derive(Clone, Copy)]
-pub struct A3Kind {}
+pub struct A3Kind;
 
 impl RatingKind for A3Kind {
     ghost kind = { Kind.A3 };
 
-    ghost BANDS = { 16 };
-
-    ghost LIMIT = { 320 };
-
-    ghost START = { 519 };
-
-    ghost ORIGIN = { 24 };
-
-    ghost AIRBORNE = { true };
-
-    ghost owned = { owned_a3 };
+    ghost BANDS = { bands_of Kind.A3 };
 
     const BANDS: usize = 16;
 
+    ghost LIMIT = { limit_of Kind.A3 };
+
     const LIMIT: u32 = 320;
+
+    ghost START = { start_add Kind.A3 };
 
     const START: u32 = 519;
 
+    ghost ORIGIN = { rating_at Kind.A3 };
+
     const ORIGIN: u32 = 24;
+
+    ghost AIRBORNE = { airborne Kind.A3 };
 
     const AIRBORNE: bool = true;
 
@@ -117,34 +126,33 @@ impl RatingKind for A3Kind {
             400, 400, 380, 360, 350, 340, 330, 320, 310, 290, 280, 290, 300, 310, 330, 350,
         ]
     }
+
+    ghost owned = { (refl, refl, refl, refl, refl) };
 }
 
 // Airborne octaves.
-#[derive(Clone, Copy)]
-pub struct A1Kind {}
+pub struct A1Kind;
 
 impl RatingKind for A1Kind {
     ghost kind = { Kind.A1 };
 
-    ghost BANDS = { 5 };
-
-    ghost LIMIT = { 100 };
-
-    ghost START = { 139 };
-
-    ghost ORIGIN = { 24 };
-
-    ghost AIRBORNE = { true };
-
-    ghost owned = { owned_a1 };
+    ghost BANDS = { bands_of Kind.A1 };
 
     const BANDS: usize = 5;
 
+    ghost LIMIT = { limit_of Kind.A1 };
+
     const LIMIT: u32 = 100;
+
+    ghost START = { start_add Kind.A1 };
 
     const START: u32 = 139;
 
+    ghost ORIGIN = { rating_at Kind.A1 };
+
     const ORIGIN: u32 = 24;
+
+    ghost AIRBORNE = { airborne Kind.A1 };
 
     const AIRBORNE: bool = true;
 
@@ -165,34 +173,33 @@ impl RatingKind for A1Kind {
             340, 300, 270, 240, 260, 200, 200, 200, 200, 200, 200, 200, 200, 200, 200, 200,
         ]
     }
+
+    ghost owned = { (refl, refl, refl, refl, refl) };
 }
 
 // Impact thirds.
-#[derive(Clone, Copy)]
-pub struct I3Kind {}
+pub struct I3Kind;
 
 impl RatingKind for I3Kind {
     ghost kind = { Kind.I3 };
 
-    ghost BANDS = { 16 };
-
-    ghost LIMIT = { 320 };
-
-    ghost START = { 1489 };
-
-    ghost ORIGIN = { 168 };
-
-    ghost AIRBORNE = { false };
-
-    ghost owned = { owned_i3 };
+    ghost BANDS = { bands_of Kind.I3 };
 
     const BANDS: usize = 16;
 
+    ghost LIMIT = { limit_of Kind.I3 };
+
     const LIMIT: u32 = 320;
+
+    ghost START = { start_add Kind.I3 };
 
     const START: u32 = 1489;
 
+    ghost ORIGIN = { rating_at Kind.I3 };
+
     const ORIGIN: u32 = 168;
+
+    ghost AIRBORNE = { airborne Kind.I3 };
 
     const AIRBORNE: bool = false;
 
@@ -210,34 +217,33 @@ impl RatingKind for I3Kind {
     fn second() -> [u32; 16] {
         [1500; 16]
     }
+
+    ghost owned = { (refl, refl, refl, refl, refl) };
 }
 
 // Impact octaves.
-#[derive(Clone, Copy)]
-pub struct I1Kind {}
+pub struct I1Kind;
 
 impl RatingKind for I1Kind {
     ghost kind = { Kind.I1 };
 
-    ghost BANDS = { 5 };
-
-    ghost LIMIT = { 100 };
-
-    ghost START = { 449 };
-
-    ghost ORIGIN = { 163 };
-
-    ghost AIRBORNE = { false };
-
-    ghost owned = { owned_i1 };
+    ghost BANDS = { bands_of Kind.I1 };
 
     const BANDS: usize = 5;
 
+    ghost LIMIT = { limit_of Kind.I1 };
+
     const LIMIT: u32 = 100;
+
+    ghost START = { start_add Kind.I1 };
 
     const START: u32 = 449;
 
+    ghost ORIGIN = { rating_at Kind.I1 };
+
     const ORIGIN: u32 = 163;
+
+    ghost AIRBORNE = { airborne Kind.I1 };
 
     const AIRBORNE: bool = false;
 
@@ -255,6 +261,8 @@ impl RatingKind for I1Kind {
     fn second() -> [u32; 16] {
         [1500; 16]
     }
+
+    ghost owned = { (refl, refl, refl, refl, refl) };
 }
 
 // The kind of a number.
@@ -314,39 +322,6 @@ pub fn start_of(kind: Kind, sum: u32) -> Position
     }
 }
 
-// The marks of a kind's bands.
-fn marks_by<K: RatingKind>(marks: u16) -> u16
-    ensures { result ≡ marks % 2 ^ bands_of K.kind }
-{
-    (u32::from(marks) % (1 << K::BANDS)) as u16
-}
-
-pub fn marks_of(kind: Kind, marks: u16) -> u16
-    ensures { result ≡ marks % 2 ^ bands_of kind }
-{
-    match kind {
-        Kind::A3 => marks_by::<A3Kind>(marks),
-        Kind::A1 => marks_by::<A1Kind>(marks),
-        Kind::I3 => marks_by::<I3Kind>(marks),
-        Kind::I1 => marks_by::<I1Kind>(marks),
-    }
-}
-
-// Whether one of them is set.
-pub fn marked(kind: Kind, marks: u16) -> bool
-    ensures { result ≡ any_to (bit marks) (bands_of kind) }
-{
-    marks_of(kind, marks) != 0
-}
-
-// How many sets of one to three of its bands a kind has: n (n n + 5) / 6 of n bands.
-pub fn sets_of(kind: Kind) -> usize
-    ensures { result ≡ bands_of kind * (bands_of kind * bands_of kind + 5) / 6 }
-{
-    let n = bands_of(kind);
-    n * (n * n + 5) / 6
-}
-
 // The numbers of a kind, fetched once for a rating.
 fn numbers_by<K: RatingKind>() -> Numbers
     ensures { result ≡ numbers_of K.kind }
@@ -369,4 +344,26 @@ pub fn numbers_of(kind: Kind) -> Numbers
         Kind::I3 => numbers_by::<I3Kind>(),
         Kind::I1 => numbers_by::<I1Kind>(),
     }
+}
+
+// The marks of a kind's bands.
+pub fn marks_of(kind: Kind, marks: u16) -> u16
+    ensures { result ≡ marks % 2 ^ bands_of kind }
+{
+    (u32::from(marks) % (1 << bands_of(kind))) as u16
+}
+
+// Whether one of them is set.
+pub fn marked(kind: Kind, marks: u16) -> bool
+    ensures { result ≡ any_to (bit marks) (bands_of kind) }
+{
+    marks_of(kind, marks) != 0
+}
+
+// How many sets of one to three of its bands a kind has: n (n n + 5) / 6 of n bands.
+pub fn sets_of(kind: Kind) -> usize
+    ensures { result ≡ bands_of kind * (bands_of kind * bands_of kind + 5) / 6 }
+{
+    let n = bands_of(kind);
+    n * (n * n + 5) / 6
 }

@@ -1,7 +1,9 @@
 // The levels of a kind's bands, by its reference curve and by its spectra.
 //
-// Each arm counts from an array that it names itself: so the array stands in the code, where one chosen before would be laid out
+// Each arm counts from an array that its kind names: so the array stands in the code, where one chosen before would be laid out
 // and copied.
+#![tactic(auto, using(crate::proofs::Facts::fits))]
+
 ghost use Rattle.curve.specs.Levels.{plain_at, Ranged, Levels};
 ghost use Rattle.kinds.specs.Kinds.{airborne, bands_of};
 ghost use Rattle.kinds.specs.Numbers.{entries_of, first_of, second_of};
@@ -9,6 +11,7 @@ ghost use Rattle.kinds.specs.Numbers.{entries_of, first_of, second_of};
 use crate::kinds::{A1Kind, A3Kind, I1Kind, I3Kind, Kind, RatingKind};
 use curve::levels::levels;
 
+// By the reference curve.
 fn curve_levels<K: RatingKind>(values: &[i32; 16]) -> [u32; 16]
     requires { Ranged values.now (bands_of K.kind) }
     ensures { Levels (airborne K.kind) (plain_at values.now) (entries_of K.kind) (bands_of K.kind) result }
@@ -16,21 +19,6 @@ fn curve_levels<K: RatingKind>(values: &[i32; 16]) -> [u32; 16]
     levels(values, K::BANDS, K::AIRBORNE, K::reference())
 }
 
-fn first_levels<K: RatingKind>(values: &[i32; 16]) -> [u32; 16]
-    requires { Ranged values.now (bands_of K.kind) }
-    ensures { Levels (airborne K.kind) (plain_at values.now) (first_of K.kind) (bands_of K.kind) result }
-{
-    levels(values, K::BANDS, K::AIRBORNE, K::first())
-}
-
-fn second_levels<K: RatingKind>(values: &[i32; 16]) -> [u32; 16]
-    requires { Ranged values.now (bands_of K.kind) }
-    ensures { Levels (airborne K.kind) (plain_at values.now) (second_of K.kind) (bands_of K.kind) result }
-{
-    levels(values, K::BANDS, K::AIRBORNE, K::second())
-}
-
-// By the reference curve.
 pub fn by_curve(kind: Kind, values: &[i32; 16]) -> [u32; 16]
     requires { Ranged values.now (bands_of kind) }
     ensures { Levels (airborne kind) (plain_at values.now) (entries_of kind) (bands_of kind) result }
@@ -44,6 +32,13 @@ pub fn by_curve(kind: Kind, values: &[i32; 16]) -> [u32; 16]
 }
 
 // By the spectrum of the first term.
+fn first_levels<K: RatingKind>(values: &[i32; 16]) -> [u32; 16]
+    requires { Ranged values.now (bands_of K.kind) }
+    ensures { Levels (airborne K.kind) (plain_at values.now) (first_of K.kind) (bands_of K.kind) result }
+{
+    levels(values, K::BANDS, K::AIRBORNE, K::first())
+}
+
 pub fn by_first(kind: Kind, values: &[i32; 16]) -> [u32; 16]
     requires { Ranged values.now (bands_of kind) }
     ensures { Levels (airborne kind) (plain_at values.now) (first_of kind) (bands_of kind) result }
@@ -57,6 +52,13 @@ pub fn by_first(kind: Kind, values: &[i32; 16]) -> [u32; 16]
 }
 
 // By the spectrum of the second term, which an airborne kind has.
+fn second_levels<K: RatingKind>(values: &[i32; 16]) -> [u32; 16]
+    requires { Ranged values.now (bands_of K.kind) }
+    ensures { Levels (airborne K.kind) (plain_at values.now) (second_of K.kind) (bands_of K.kind) result }
+{
+    levels(values, K::BANDS, K::AIRBORNE, K::second())
+}
+
 pub fn by_second(kind: Kind, values: &[i32; 16]) -> [u32; 16]
     requires { Ranged values.now (bands_of kind) }
     ensures { Levels (airborne kind) (plain_at values.now) (second_of kind) (bands_of kind) result }
