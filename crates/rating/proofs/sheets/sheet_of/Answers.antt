@@ -1,8 +1,6 @@
 -- `rating::sheets::sheet_of` meets its contract: the levels found are those of the set, what is weighed of them is small, and
 -- each number of the record is the defined one. Assumes nothing.
 use mathlib.Core.Path.{ap}
-use Prim.Native.Nat.{◌<◌}
-use Rattle.energy.specs.Energies.{Summed}
 use Rattle.kinds.proofs.Facts.{entries_fit, first-fit, second-fit}
 use Rattle.rating.specs.Found.{Sought}
 use Rattle.rating.proofs.RatedLaws.{bands-are}
@@ -69,8 +67,8 @@ second : (c : After-marked) → Fetched c.args.kind c.args.set c.plain-values.re
     → SecondAt c.args.kind c.numbers_of-n.result c.args.set c.sought-accepted.result.at.0 c.if-n.second
 second c f =
     elim c.if-n.branch [
-      then-n w ↦ rw w.second-is
-      (given w.term_of.result w.if-n.true (term-by f w.by_second-by_second.ensures _ w.weigh-other.ensures w.term_of.ensures))
+      | then-n w ↦ rw w.second-is
+          (given w.term_of.result w.if-n.true (term-by f w.by_second-by_second.ensures _ w.weigh-other.ensures w.term_of.ensures))
       | else-n w ↦ rw w.second-is (absent w.if-n.false)
     ]
 
