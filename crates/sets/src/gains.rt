@@ -26,33 +26,20 @@ pub fn position_at(target: Decibels, airborne: bool, origin: Position) -> Positi
     Position(counted(target.0, airborne, origin.0))
 }
 
-// How far a level stays below a height.
-fn short_of(height: u32, level: u32) -> u32
-    ensures { result ≡ height - level }
-{
-    if level < height {
-        return height - level;
-    }
-    0
-}
-
 // The deficit of one band at ten times a position.
 fn lacking(value: Tenths, airborne: bool, entry: u32, height: u32) -> u32
     requires ranged { in_range value.0 ≡ true }
     requires entries { Entries airborne entry }
     ensures { result ≡ height - level_by airborne value.0 entry }
 {
-    short_of(height, level_of(value, airborne, entry))
+    height.saturating_sub(level_of(value, airborne, entry))
 }
 
 // The value of a lifted band.
 fn best(airborne: bool) -> Tenths
     ensures { result.0 ≡ highest airborne }
 {
-    if airborne {
-        return Tenths(1500);
-    }
-    Tenths(-200)
+    if airborne { Tenths(1500) } else { Tenths(-200) }
 }
 
 // The gain of each of the first `bands` bands at position p, and the total of their deficits there.
