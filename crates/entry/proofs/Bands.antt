@@ -1,56 +1,50 @@
--- Kinds and bands of entries: values one by one, marks, and what is kept of a set. Assumes nothing.
-use mathlib.Core.Path.{◌≡◌, sym, ◌∙◌, ap}
-use mathlib.Core.Bool.{true, false, ◌&&◌}
+-- Kinds and bands of entries: marks, and values one by one and as slices. Assumes nothing.
+use mathlib.Core.Path.{◌≡◌, refl, sym, ◌∙◌, ap}
+use mathlib.Core.Bool.{Bool, true, false, ◌&&◌}
 use mathlib.Core.List.{List}
-use Prim.Native.Nat.{ℕ, ◌<◌}
+use Prim.Native.Nat.{ℕ, ◌<◌, ◌≤◌}
 use native.Mathlib.Omega.{arith}
-use borrow.Author.Tests.{le-leb, eqb-true, eq-eqb, ne_eqb}
+use borrow.Author.Tests.{le-leb, eqb-true, eq-eqb}
 use lib.Dec.{eqb}
 use lib.IntN.{ℤ, pos, negsuc}
 use lib.Signed.{le_z}
-use lib.ListN.{length, get_or}
-use Rattle.laws.proofs.Tests.{both, both-made, left-fails, left-holds}
+use lib.ListN.{length, get_or, take}
+use lib.Pointwise.{pointwise, pointwise_decides}
+use lib.Seq.{ext_get_or, get_or-take, length-take-le}
+use Rattle.std.specs.Bool.{Decides, one_answer}
+use Rattle.std.specs.Cmp.{signed_Decides}
+use Rattle.std.specs.Ordering.{int_eq}
+use Rattle.laws.proofs.Tests.{both, both-made}
 use Rattle.laws.proofs.Ints.{ints, le_yes, eq-made}
-use Rattle.laws.specs.Lists.{listed}
+use Rattle.quantity.specs.Quantities.{nought}
 use Rattle.quantity.specs.declared.quantities.Tenths.{Tenths}
-use Rattle.quantity.specs.declared.quantities.BandSet.{BandSet}
 use Rattle.laws.proofs.Ranges.{all-at, all_made}
 use Rattle.kinds.specs.declared.kinds.Kind.{Kind}
 use Rattle.kinds.specs.Kinds.{bands_of, kind_of, kind_number}
+use Rattle.curve.proofs.Searched.{count_most}
+use Rattle.kinds.proofs.Facts.{count-of}
 use Rattle.kinds.proofs.Numbered.{kind-of-number}
 use Rattle.entry.specs.declared.entries.Entry.{Entry}
-use Rattle.entry.specs.Entries.{value_of, marks_to, same_value, same_values, same_marks, bands_by, bands_in, same_bands, kept_value, Call, call_of, entry_of}
+use Rattle.entry.specs.Entries.{value_of, marks_to, same_value, same_values, same_marks, bands_by, bands_in, same_bands, Call, entry_of}
 
 -- ---- marks and bands
+pub bands_most : (k : Kind) → bands_of k ≤ 16
+bands_most k = count_most (count-of k)
+
 -- how many bands an entry of the kind has
-pub bands-in : (n : ℕ) (k : Kind) → n ≡ kind_number k → bands_by (kind_of n) ≡ bands_of k
+bands-in : (n : ℕ) (k : Kind) → n ≡ kind_number k → bands_by (kind_of n) ≡ bands_of k
 bands-in n k e = ap (λ (m : ℕ). bands_by (kind_of m)) e ∙ ap bands_by (kind-of-number k)
 
-module _ (e f : Entry) where
-  pub bands-kind : (e.kind ≡ f.kind → ⊥) → false ≡ same_bands e f
-  unfolding same_bands
-  bands-kind h = left-fails (same_marks (bands_in e) e f && same_values (bands_in e) e f) (ne_eqb e.kind f.kind h)
-
-  module _ (k : Kind) (g : f.kind ≡ kind_number k) (h : e.kind ≡ f.kind) where
-    within : same_marks (bands_of k) e f && same_values (bands_of k) e f ≡ same_bands e f
-    unfolding same_bands
-    within =
-        ap (λ (n : ℕ). same_marks n e f && same_values n e f) (sym (bands-in e.kind k (h ∙ g)))
-        ∙ left-holds (same_marks (bands_in e) e f && same_values (bands_in e) e f) (eq-eqb e.kind f.kind h)
-
-    pub bands-marks : (m n : ℕ) → m ≡ marks_to (bands_of k) e.marks → n ≡ marks_to (bands_of k) f.marks → (m ≡ n → ⊥) → false ≡ same_bands e f
-    bands-marks m n a b d =
-        left-fails (same_values (bands_of k) e f)
-        (ne_eqb (marks_to (bands_of k) e.marks) (marks_to (bands_of k) f.marks) (λ s. d (a ∙ s ∙ sym b)))
-        ∙ within
-
-    pub bands-values : (m n l : ℕ) → m ≡ marks_to (bands_of k) e.marks → n ≡ marks_to (bands_of k) f.marks → m ≡ n → l ≡ bands_of k
-        → same_values l e f ≡ same_bands e f
-    bands-values m n l a b d s =
-        ap (λ (i : ℕ). same_values i e f) s
-        ∙ left-holds (same_values (bands_of k) e f)
-        (eq-eqb (marks_to (bands_of k) e.marks) (marks_to (bands_of k) f.marks) (sym a ∙ d ∙ b))
-        ∙ within
+-- where the second is of the kind, the kind's bands are compared
+pub bands_of_kind : (e f : Entry) (k : Kind) {m n : ℕ} → f.kind ≡ kind_number k → m ≡ marks_to (bands_of k) e.marks → n ≡ marks_to (bands_of k) f.marks
+    → same_bands e f ≡ eqb e.kind f.kind && (eqb m n && same_values (bands_of k) e f)
+unfolding same_bands
+bands_of_kind e f k {m} {n} g a b = go (eqb e.kind f.kind) refl
+  where
+    go : (t : Bool) → eqb e.kind f.kind ≡ t
+        → t && (same_marks (bands_in e) e f && same_values (bands_in e) e f) ≡ t && (eqb m n && same_values (bands_of k) e f)
+    go true h = rw (bands-in e.kind k (eqb-true e.kind f.kind h ∙ g), a, b) refl
+    go false h = refl
 
 -- ---- what it means that two entries have the same bands
 value-one : (x y : ℤ) → same_value x y ≡ true → x ≡ y
@@ -63,6 +57,34 @@ value-one x y e =
 value-refl : (z : ℤ) → same_value z z ≡ true
 value-refl (pos n) = both-made (le-leb n n (omega arith)) (le-leb n n (omega arith))
 value-refl (negsuc n) = both-made (le-leb n n (omega arith)) (le-leb n n (omega arith))
+
+tenths-one : (x y : Tenths) → x.0 ≡ y.0 → x ≡ y
+tenths-one x y h = let made : ℤ → Tenths = λ z. record { 0 = z } in ap made h
+
+tenths-told : (x y : Tenths) → Decides (int_eq x.0 y.0) (x ≡ y)
+tenths-told x y = let d = signed_Decides x.0 y.0 in (λ h. tenths-one x y (d.0 h), λ h. d.1 (ap (λ (t : Tenths). t.0) h))
+
+module _ (e f : Entry) (n : ℕ) (p : n ≤ length e.values) (q : n ≤ length f.values) where
+  slices-told : Decides (pointwise (λ (x y : Tenths). int_eq x.0 y.0) (take n e.values) (take n f.values)) (take n e.values ≡ take n f.values)
+  slices-told = pointwise_decides tenths-told (take n e.values) (take n f.values)
+
+  values-told : Decides (same_values n e f) (take n e.values ≡ take n f.values)
+  unfolding same_values
+  values-told = (
+    λ h. ext_get_or nought (take n e.values) (take n f.values) (length-take-le n e.values p ∙ sym (length-take-le n f.values q))
+        (λ i l. let u : i < n = omega (arith, length-take-le n e.values p) in
+        get_or-take n e.values i nought u
+        ∙ tenths-one _ _ (value-one (value_of e i) (value_of f i) (all-at (λ j. same_value (value_of e j) (value_of f j)) n h i u))
+        ∙ sym (get_or-take n f.values i nought u)),
+    λ h. all_made (λ i. same_value (value_of e i) (value_of f i)) n
+        (λ i l. let u : get_or e.values i nought ≡ get_or f.values i nought =
+        sym (get_or-take n e.values i nought l) ∙ ap (λ (s : List Tenths). get_or s i nought) h ∙ get_or-take n f.values i nought l in
+        ap (λ (t : Tenths). same_value (value_of e i) t.0) (sym u) ∙ value-refl (value_of e i)),
+  )
+
+  -- the first n values, compared as slices
+  pub values_eq : pointwise (λ (x y : Tenths). int_eq x.0 y.0) (take n e.values) (take n f.values) ≡ same_values n e f
+  values_eq = one_answer _ (same_values n e f) slices-told values-told
 
 -- one kind, and the same values and marks of all its bands
 pub record OneBands (e f : Entry) : Type 0 where
@@ -89,16 +111,7 @@ bands-made e f o =
     (all_made (λ i. same_value (value_of e i) (value_of f i)) (bands_in e)
     (λ i p. ap (same_value (value_of e i)) (sym (o.values i p)) ∙ value-refl (value_of e i))))
 
--- the entry of a call, from its parts
-pub entry-made : (customer : ℕ) (text : List ℕ) (k : Kind) (s : BandSet) (price : ℕ) {key : List ℕ} {values : List Tenths} {n marks kind : ℕ}
-    → key ≡ listed (λ i. get_or text i 0) 32 0 → values ≡ listed (kept_value s n) 16 0 → n ≡ bands_of k → marks ≡ marks_to (bands_of k) s.marks
-    → kind ≡ kind_number k
-    → ◌≡◌ {A = Entry}
-    (record { customer = customer; key = key; values = values; price = record { 0 = price }; marks = marks; length = length text; kind = kind })
-    (entry_of (call_of customer text k s price))
-unfolding entry_of
-entry-made customer text k s price a b c d e = rw (a, b, c, d, e)
-
+-- ---- the entry of a call
 module _ {e : Entry} (x : Call) (h : e ≡ entry_of x) where
   pub entry_length : e.length ≡ length x.key
   unfolding entry_of

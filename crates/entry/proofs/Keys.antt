@@ -2,22 +2,37 @@
 use mathlib.Core.Path.{◌≡◌, refl, sym, ◌∙◌, ap, ap₂}
 use mathlib.Core.Bool.{true, false}
 use mathlib.Core.List.{List}
-use Prim.Native.Nat.{ℕ, ◌+◌, ◌*◌, ◌%◌}
+use Prim.Native.Nat.{ℕ, zero, suc, ◌+◌, ◌*◌, ◌%◌, ◌≤◌}
 use native.Mathlib.Numerals.{add-one}
-use lib.ListN.{length, get_or}
+use native.Mathlib.Omega.{arith}
+use lib.ListN.{length, get_or, take}
+use lib.Seq.{take_all}
+use Rattle.std.specs.List.{fold}
+use Rattle.std.proofs.lemmas.List.Sums.{fold_more}
 use Rattle.laws.proofs.Tests.{refuted}
 use Rattle.entry.specs.declared.entries.Entry.{Entry}
 use Rattle.entry.specs.Entries.{same_key, word_to, word_of}
 use Rattle.entry.proofs.Texts.{key-same}
 
-module _ (customer : ℕ) (key : List ℕ) where
-  pub word_none : customer % 4294967296 ≡ word_to customer key 0
-  unfolding word_to
-  word_none = refl
+-- one byte more
+abbrev pub next : ℕ → ℕ → ℕ
+next w b = (w * 33 % 4294967296 + b) % 4294967296
 
-  pub word_more : (i s : ℕ) → s ≡ word_to customer key i → (s * 33 + get_or key i 0) % 4294967296 ≡ word_to customer key (i + 1)
+next-is : (w b : ℕ) → next w b ≡ (w * 33 + b) % 4294967296
+next-is w b = omega arith
+
+module _ (customer : ℕ) (key : List ℕ) where
+  word-taken : (i : ℕ) → i ≤ length key → fold next (customer % 4294967296) (take i key) ≡ word_to customer key i
   unfolding word_to
-  word_more i s e = ap (λ (w : ℕ). (w * 33 + get_or key i 0) % 4294967296) e ∙ ap (word_to customer key) (sym (add-one i))
+  word-taken zero h = refl
+  word-taken (suc i) h =
+      ap (λ (j : ℕ). fold next (customer % 4294967296) (take j key)) (sym (add-one i))
+      ∙ fold_more next (customer % 4294967296) key i 0 h
+      ∙ next-is _ (get_or key i 0)
+      ∙ ap (λ (w : ℕ). (w * 33 + get_or key i 0) % 4294967296) (word-taken i (omega arith))
+
+  pub word_fold : fold next (customer % 4294967296) key ≡ word_to customer key (length key)
+  word_fold = ap (fold next (customer % 4294967296)) (sym (take_all (length key) key (omega arith))) ∙ word-taken (length key) (omega arith)
 
 pub word_same : (e f : Entry) → same_key e f ≡ true → word_of e ≡ word_of f
 unfolding word_of

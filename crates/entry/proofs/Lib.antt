@@ -2,4 +2,5 @@
 pub mod Texts
 pub mod Bands
 pub mod Keys
+pub mod Kept
 pub mod Oks

@@ -8,36 +8,23 @@ use curve::levels::all_in_range;
 use kinds::{bands_of, kind_of};
 use quantity::is_key_of;
 
+#[tactic(auto, using(crate::proofs::Oks::ratable_as))]
 fn is_ratable(e: Entry) -> bool
     ensures { result ≡ ratable (kind_of e.kind) e }
 {
-    match kind_of(e.kind as u32) {
-        Some(kind) => all_in_range(set_of(e, kind), bands_of(kind)),
-        None => false,
-    }
+    kind_of(u32::from(e.kind)).is_some_and(|kind| all_in_range(set_of(e, kind), bands_of(kind)))
 }
 
 fn is_keyed(e: Entry) -> bool
     ensures { result ≡ keyed e }
 {
-    let n = e.length as usize;
-    if 32 < n {
-        return false;
-    }
-    let key = e.key;
-    is_key_of(&key[..n])
+    e.length <= 32 && is_key_of(&e.key[..e.length as usize])
 }
 
 // Whether a call could have made an entry.
+#[tactic(auto, unfolding(crate::specs::Entries::entry_ok))]
 pub fn entry_ok(e: Entry) -> bool
     ensures { result ≡ entry_ok e }
 {
-    let price = e.price;
-    if !price.in_range() {
-        return false;
-    }
-    if !is_ratable(e) {
-        return false;
-    }
-    is_keyed(e)
+    e.price.in_range() && is_ratable(e) && is_keyed(e)
 }

@@ -23,6 +23,7 @@ pub struct Entry {
 }
 
 // An entry of zeros.
+#[tactic(auto, unfolding(crate::specs::Entries::no_entry))]
 pub fn no_entry() -> Entry
     ensures { result ≡ no_entry }
 {
@@ -37,59 +38,13 @@ pub fn no_entry() -> Entry
     }
 }
 
-fn same_text(s: &[u8], t: &[u8]) -> bool
-    ensures { result ≡ same_text s.now t.now }
-{
-    if s.len() != t.len() {
-        return false;
-    }
-    for i in 0..s.len() {
-        if s[i] != t[i] {
-            return false;
-        }
-    }
-    true
-}
-
 // Whether two entries have one customer and key.
+#[tactic(auto, using(crate::proofs::Texts::text_eq), unfolding(crate::specs::Entries::same_key))]
 pub fn same_key(e: Entry, f: Entry) -> bool
     requires { (e.length ≤ 32) × (f.length ≤ 32) }
     ensures { result ≡ same_key e f }
 {
-    if e.customer != f.customer {
-        return false;
-    }
-    let s = e.key;
-    let t = f.key;
-    let n = e.length as usize;
-    let m = f.length as usize;
-    same_text(&s[..n], &t[..m])
-}
-
-fn same_tenths(s: Tenths, t: Tenths) -> bool
-    ensures { result ≡ same_value s.0 t.0 }
-{
-    let x = s.0;
-    let y = t.0;
-    if x < y {
-        return false;
-    }
-    x <= y
-}
-
-// Whether the first n values of two entries are the same.
-fn same_values(e: Entry, f: Entry, n: usize) -> bool
-    requires { n ≤ 16 }
-    ensures { result ≡ same_values n e f }
-{
-    for i in 0..n {
-        let s = e.values[i];
-        let t = f.values[i];
-        if !same_tenths(s, t) {
-            return false;
-        }
-    }
-    true
+    e.customer == f.customer && e.key[..e.length as usize] == f.key[..f.length as usize]
 }
 
 // Whether two entries, the second of this kind, have one kind and the same bands.
@@ -97,13 +52,10 @@ pub fn same_bands(e: Entry, f: Entry, kind: Kind) -> bool
     requires { f.kind ≡ kind_number kind }
     ensures { result ≡ same_bands e f }
 {
-    if e.kind != f.kind {
-        return false;
-    }
-    if marks_of(kind, e.marks) != marks_of(kind, f.marks) {
-        return false;
-    }
-    same_values(e, f, bands_of(kind))
+    let n = bands_of(kind);
+    e.kind == f.kind
+        && marks_of(kind, e.marks) == marks_of(kind, f.marks)
+        && e.values[..n] == f.values[..n]
 }
 
 // The bands of an entry, as rating takes them.
@@ -120,40 +72,26 @@ pub fn set_of(e: Entry, kind: Kind) -> BandSet
 
 // A key, with zeros after it.
 fn kept_key(key: &[u8]) -> [u8; 32]
+    requires { length key.now ≤ 32 }
     ensures { result ≡ listed (λ i. get_or key.now i 0) 32 0 }
 {
     let mut bytes = [0u8; 32];
-    for i in 0..32 {
-        let b = byte(key, i);
-        bytes[i] = b;
-    }
+    bytes[..key.len()].copy_from_slice(key);
     bytes
-}
-
-// Value i of the first n of a set; zero past them.
-fn kept_value(set: BandSet, n: usize, i: usize) -> Tenths
-    requires { i < 16 }
-    ensures { result ≡ kept_value set n i }
-{
-    if i < n {
-        return set.values[i];
-    }
-    Tenths(0)
 }
 
 // The first n values of a set, with zeros after them.
 fn kept_values(set: BandSet, n: usize) -> [Tenths; 16]
+    requires { n ≤ 16 }
     ensures { result ≡ listed (kept_value set n) 16 0 }
 {
     let mut values = [Tenths(0); 16];
-    for i in 0..16 {
-        let value = kept_value(set, n, i);
-        values[i] = value;
-    }
+    values[..n].copy_from_slice(&set.values[..n]);
     values
 }
 
 // The entry of a call.
+#[tactic(auto, unfolding(crate::specs::Entries::entry_of))]
 pub fn entry_of(customer: u64, key: &[u8], kind: Kind, set: BandSet, price: Fen) -> Entry
     requires { length key.now ≤ 32 }
     ensures { result ≡ entry_of (call_of customer key.now kind set price.0) }

@@ -8,19 +8,18 @@ use crate::entries::Entry;
 fn word(customer: u64, key: &[u8]) -> u32
     ensures { result ≡ word_to customer key.now (length key.now) }
 {
-    let mut sum = customer % 4294967296;
-    for i in 0..key.len() {
-        sum = (sum * 33 + key[i] as u64) % 4294967296;
-    }
-    sum as u32
+    let start = (customer % 4294967296) as u32;
+    key.iter().fold(
+        start,
+        |sum, b| sum.wrapping_mul(33).wrapping_add(u32::from(*b)),
+    )
 }
 
 // The word of an entry.
+#[tactic(auto, unfolding(crate::specs::Entries::word_of))]
 pub fn word_of(e: Entry) -> u32
     requires { e.length ≤ 32 }
     ensures { result ≡ word_of e }
 {
-    let key = e.key;
-    let n = e.length as usize;
-    word(e.customer, &key[..n])
+    word(e.customer, &e.key[..e.length as usize])
 }

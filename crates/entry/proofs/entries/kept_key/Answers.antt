@@ -1,8 +1,10 @@
--- `entry::entries::kept_key` meets its contract. The invariant: the bytes so far are those of the key. Assumes nothing.
-use native.Mathlib.Omega.{arith}
-use lib.ListN.{get_or}
-use Rattle.laws.proofs.Lists.{agreed-all}
+-- `entry::entries::kept_key` meets its contract: the key, and zeros after it. Assumes nothing.
+use mathlib.Core.Path.{refl}
+use lib.ListN.{get_or, length}
+use Rattle.entry.proofs.Kept.{kept}
 use Rattle.entry.proofs.entries.kept_key.Goals as goal
 
 pub returns : goal.returns
-returns c = agreed-all 0 (λ j. get_or c.args.key.now j 0) 32 c.loop-i.bytes c.loop-i.i (omega arith) c.loop-i.invariant
+returns c =
+    let key = c.args.key.now in
+    rw c.copy_from_slice.ensures.after (kept 0 (λ i. get_or key i 0) 32 (length key) key refl c.requires (λ j h. refl))

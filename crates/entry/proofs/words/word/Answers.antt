@@ -1,10 +1,12 @@
--- `entry::words::word` meets its contract. The invariant: the sum is the word of the bytes passed. Assumes nothing.
-use native.Mathlib.Omega.{arith}
-use Rattle.entry.proofs.Keys.{word_none, word_more}
+-- `entry::words::word` meets its contract: the fold over the bytes is the word. Assumes nothing.
+use mathlib.Core.Path.{◌≡◌, ◌∙◌}
+use Prim.Native.Nat.{◌%◌}
+use Rattle.std.specs.List.{fold}
+use Rattle.std.proofs.Common.{rules}
+use Rattle.entry.proofs.Keys.{next, word_fold}
 use Rattle.entry.proofs.words.word.Goals as goal
 
-pub loop-i-init : goal.loop-i-init
-loop-i-init c = (omega arith, omega arith, word_none _ _)
-
-pub loop-i-preserved : goal.loop-i-preserved
-loop-i-preserved c = (omega arith, omega arith, word_more _ _ _ _ c.loop-i.invariant.2)
+pub returns : goal.returns
+returns c =
+    let h : c.fold.result ≡ fold next (c.args.customer % 4294967296) c.args.key.now = search rules in
+    h ∙ word_fold _ _
