@@ -8,15 +8,15 @@ use native.Mathlib.Omega.{arith}
 use lib.Dec.{T, leb, leb→le, lit<, lit≤, T_not}
 use lib.IntN.{pos, ◌-ℤ◌}
 use lib.ListN.{get_or}
+use Rattle.std.specs.List.Sorted.{IsNonDecreasing}
 use Rattle.laws.specs.Extremes.{Greatest, Number, greatest, settle}
 use Rattle.laws.proofs.Extremes.{Down, edge, found, found-is, greatest-unique}
 use Rattle.laws.proofs.Table.{both, both_left, both_right, every, at}
 use Rattle.energy.specs.Energies.{F, energy_rule}
 use Rattle.energy.specs.Corrections.{c, background_rule, BackgroundRule, k, time_rule}
-use Rattle.energy.specs.Steps.{Reached}
 use Rattle.energy.proofs.Powers.{ten-up, pass-down}
 use Rattle.energy.proofs.Weights.{down-place, number-within}
-use Rattle.energy.proofs.Thresholds.{threshold, meets, misses}
+use Rattle.energy.proofs.Thresholds.{Reached, threshold, rising, meets, misses}
 use Rattle.energy.proofs.Lists.{backgrounds, times}
 
 -- ---- c
@@ -89,6 +89,10 @@ top-k t h p =
 checked-k : T (every (threshold need_k size_k) 0 times)
 unfolding times
 checked-k = tt
+
+pub times-rise : IsNonDecreasing times
+unfolding times
+times-rise = rising need_k size_k up-k times checked-k (λ i j h. mul-le-mul_left (50 ^ 200) (ten-up (omega arith)))
 
 pub base-k : (t : ℕ) → 10 ≤ t → need_k 0 ≤ size_k t
 base-k t h = le_trans (lit≤ {m = need_k 0} {n = size_k 10} tt) (up-k 10 t h)

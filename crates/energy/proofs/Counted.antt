@@ -2,20 +2,21 @@
 use mathlib.Core.Path.{◌≡◌, sym, ap}
 use mathlib.Core.Bool.{Bool, true, false}
 use mathlib.Core.List.{List}
-use Prim.Native.Nat.{ℕ, zero, suc, ◌+◌, ◌-◌, ◌%◌, ◌≤◌, ◌<◌}
+use Prim.Native.Nat.{ℕ, zero, suc, ◌+◌, ◌-◌, ◌/◌, ◌%◌, ◌≤◌, ◌<◌}
 use native.Mathlib.Nat.{add-zero}
 use native.Mathlib.Omega.{arith}
 use lib.Dec.{lit≤}
+use lib.ListN.{get_or}
 use Rattle.energy.specs.Energies.{u, Summed}
-use Rattle.energy.specs.Tabled.{Stepped, reach, start_in, missed_by, missed_at}
+use Rattle.energy.specs.Tabled.{Stepped, reach, start_in, missed_by, missed_at, MeanTabled, Summed₃}
 
-pub reach-most : (many : Bool) → reach many ≤ 901
-reach-most true = lit≤ tt
-reach-most false = lit≤ tt
+pub reach_most : (many : Bool) → reach many ≤ 901
+reach_most true = lit≤ tt
+reach_most false = lit≤ tt
 
-pub missed-most : (S low : ℕ) → missed_by S low ≤ 1
-unfolding missed_by
-missed-most S low = omega arith
+-- the start of a stretch of means, by where it stands
+pub turn_fits : (table : List ℕ) (S i : ℕ) → MeanTabled table → Summed₃ S → i ≡ (S - 1) / 33554432 - 29 → get_or table (150 + i) 0 ≤ 48
+turn_fits table S i m h e = rw e (m.fits S h)
 
 -- what the low bits tell of a threshold within 2 ^ 31 of a sum
 pub bits-reached : (S H : ℕ) → H ≤ S → S < H + 2147483648 → missed_by S (H % 4294967296) ≡ 0

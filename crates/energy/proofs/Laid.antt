@@ -6,13 +6,14 @@ use Prim.Native.Nat.{ℕ, zero, suc, ◌+◌, ◌%◌, ◌≤◌, ◌<◌}
 use native.Mathlib.Nat.{add_assoc}
 use native.Mathlib.Omega.{arith}
 use lib.Dec.{lit≤}
-use lib.ListN.{length, get_or, get_or-append}
-use lib.Seq.{get_or-append-add}
+use lib.ListN.{length, drop, get_or, get_or-append, length-append}
+use lib.Seq.{get_or-append-add, get_or-drop}
+use Rattle.std.proofs.lemmas.List.{get_or-append_right}
 use Rattle.energy.specs.Energies.{u, Summed}
 use Rattle.energy.specs.Tabled.{Powers, Stepped, Tabled, reach, start_in, missed_by, missed_at, stretch_of}
 use Rattle.energy.proofs.Lists.{energies, levels, starts}
 use Rattle.energy.proofs.Scaled.{entry-is}
-use Rattle.energy.proofs.Starts.{start_of, stretch-among, start_fits, start-least, start-most, low-passed, low-missed}
+use Rattle.energy.proofs.Starts.{start_of, stretch_among, start_fits, start-least, start-most, low-passed, low-missed}
 
 -- the thresholds by their low 32 bits
 unfoldable pub lows : List ℕ → List ℕ
@@ -30,7 +31,7 @@ module _ (many : Bool) (table : List ℕ) (long : reach many + 217 ≤ length ta
     (thresholds : (j : ℕ) → j < 123 → get_or table (reach many + j) 0 ≡ get_or levels j 0 % 4294967296)
     (places : (i : ℕ) → i < 94 → get_or table (reach many + 123 + i) 0 ≡ get_or starts i 0) where
   start_is : (S : ℕ) → Summed S → start_of S ≡ start_in many table S
-  start_is S h = sym (places (stretch_of S) (stretch-among S h))
+  start_is S h = sym (places (stretch_of S) (stretch_among S h))
 
   threshold : (S i : ℕ) → Summed S → i < 3 → get_or table (reach many + start_of S + i) 0 ≡ get_or levels (start_of S + i) 0 % 4294967296
   threshold S i h l =
@@ -73,11 +74,29 @@ laid-is = record {
 }
 
 -- ---- for many sets: F whole, and behind it what follows F for one
-pub widened_is : (table : List ℕ) → length table ≡ 1118 → Powers 901 table
-    → ((i : ℕ) → i < 217 → get_or table (901 + i) 0 ≡ get_or laid (100 + i) 0) → Tabled true table
-widened_is table e powers follows = record {
-  scaled = record { long = omega (arith, e); each = powers };
-  stepped = stepped true table (omega (arith, e)) (λ j h. follows j (omega arith) ∙ in-levels j h)
-      (λ i h. ap (λ (n : ℕ). get_or table n 0) (omega arith) ∙ follows (123 + i) (omega arith)
-      ∙ ap (λ (n : ℕ). get_or laid n 0) (omega arith) ∙ in-starts i);
+pub widened_is : (front back rest : List ℕ) → length front ≡ 901 → Powers 901 front → back ≡ drop 100 laid → Tabled true (front ++ (back ++ rest))
+unfolding energies levels starts lows
+widened_is front back rest h powers e = record {
+  scaled = record { long = omega (arith, long); each = λ d k. get_or-append front (back ++ rest) 0 d (omega arith) ∙ powers d k };
+  stepped = stepped true table long (λ j k. follows j (omega arith) ∙ in-levels j k)
+      (λ i k. let p : reach true + 123 + i ≡ 901 + (123 + i) = omega arith in
+      let q : 100 + (123 + i) ≡ 223 + i = omega arith in
+      ap (λ (n : ℕ). get_or table n 0) p ∙ follows (123 + i) (omega arith) ∙ ap (λ (n : ℕ). get_or laid n 0) q ∙ in-starts i);
 }
+  where
+    table : List ℕ
+    table = front ++ (back ++ rest)
+
+    behind : length back ≡ 217
+    behind = ap length e
+
+    long : 1118 ≤ length table
+    long = omega (arith, behind, length-append front (back ++ rest), length-append back rest)
+
+    follows : (i : ℕ) → i < 217 → get_or table (901 + i) 0 ≡ get_or laid (100 + i) 0
+    follows i k =
+        get_or-append_right front (back ++ rest) 901 (901 + i) 0 h (omega arith)
+        ∙ ap (λ (n : ℕ). get_or (back ++ rest) n 0) (omega arith)
+        ∙ get_or-append back rest 0 i (omega (arith, behind))
+        ∙ ap (λ (l : List ℕ). get_or l i 0) e
+        ∙ get_or-drop 100 laid i 0

@@ -103,8 +103,8 @@ checked-back = tt
 abbrev pub start_of : ℕ → ℕ
 start_of S = get_or starts (stretch_of S) 0
 
-pub stretch-among : (S : ℕ) → Summed S → stretch_of S < 94
-stretch-among S h = (lies S h).among
+pub stretch_among : (S : ℕ) → Summed S → stretch_of S < 94
+stretch_among S h = (lies S h).among
 
 pub start_fits : (S : ℕ) → Summed S → start_of S ≤ 120
 unfolding fits starts

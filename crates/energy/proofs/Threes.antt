@@ -3,7 +3,7 @@
 use mathlib.Core.Path.{◌≡◌, refl, sym, ◌∙◌, ap, subst}
 use mathlib.Core.Bool.{Bool}
 use mathlib.Core.Logic.{◌⊎◌, inl, inr, ⊎_elim}
-use Prim.Native.Nat.{ℕ, zero, suc, ◌+◌, ◌*◌, ◌-◌, ◌^◌, ◌≤◌, ◌<◌}
+use Prim.Native.Nat.{ℕ, zero, suc, ◌*◌, ◌-◌, ◌^◌, ◌≤◌, ◌<◌}
 use native.Mathlib.Nat.{le_trans, lt_of_lt_of_le, not-le_of_lt}
 use native.Mathlib.Decide.{dec_lt, dec_le}
 use native.Mathlib.Omega.{arith}
@@ -14,7 +14,7 @@ use Rattle.laws.proofs.Extremes.{Down, found, found-is}
 use Rattle.laws.proofs.Table.{both, both_left, both_right, every, at}
 use Rattle.energy.specs.Energies.{F}
 use Rattle.energy.specs.Means.{v, mean_rule, MeanRule, least₃, sum₃}
-use Rattle.energy.specs.Steps.{Reached}
+use Rattle.energy.proofs.Thresholds.{Reached}
 use Rattle.energy.proofs.Weights.{weight, up-sum, down-place, number-within}
 use Rattle.energy.proofs.Scaled.{F-first, F-most}
 use Rattle.energy.proofs.Lists.{means}
@@ -119,7 +119,3 @@ sum-bounds x y z =
           (one-is-least x y z),
       omega arith,
     )
-
--- what the code adds up: m is the least, e f g the energies above it
-pub mean-sum : (x y z m e f g : ℕ) → m ≡ least₃ x y z → e ≡ F (x - m) → f ≡ F (y - m) → g ≡ F (z - m) → e + f + g ≡ sum₃ x y z
-mean-sum x y z m e f g a b c d = cc

@@ -1,21 +1,39 @@
 -- A table of thresholds: entry i is the least number whose size meets need (i + 1). Where a number reaches r entries, it meets
--- need r and not need (r + 1): no order of the table is used. Here for the sums of sixteen bands. Assumes nothing.
+-- need r and not need (r + 1): no order of the table is used. Where the needs rise, the table does. Here for the sums of sixteen
+-- bands. Assumes nothing.
 use mathlib.Core.Path.{◌≡◌, refl, sym, subst}
-use mathlib.Core.Bool.{Bool}
+use mathlib.Core.Bool.{Bool, true, false}
 use mathlib.Core.List.{List}
 use Prim.Native.Nat.{ℕ, zero, suc, ◌+◌, ◌*◌, ◌-◌, ◌^◌, ◌≤◌, ◌<◌}
-use native.Mathlib.Nat.{pow-le-pow_left, le_trans, lt_of_le_of_lt, not-le_of_lt}
+use native.Mathlib.Nat.{pow-le-pow_left, le_refl, le_trans, lt_of_le_of_lt, not-le_of_lt}
 use native.Mathlib.Decide.{dec_lt}
 use native.Mathlib.Omega.{arith}
 use lib.Dec.{T, leb, ltb, leb→le, le→leb, ltb→lt, lit<, lit≤}
 use lib.ListN.{length, get_or}
+use Rattle.std.specs.List.Sorted.{IsNonDecreasing, IsPartitionPoint}
+use Rattle.std.proofs.lemmas.Bool.{leb-true, leb-false}
+use Rattle.std.proofs.lemmas.List.Sorted.{IsNonDecreasingBy-from_default}
 use Rattle.laws.specs.Extremes.{Greatest, Least, Number}
 use Rattle.laws.proofs.Extremes.{Down, found, number_of}
 use Rattle.laws.proofs.Table.{both, both_left, both_right, every, at}
 use Rattle.energy.specs.Energies.{u, level_rule, AtLeast, Summed}
-use Rattle.energy.specs.Steps.{Reached}
 use Rattle.energy.proofs.Powers.{ten-up, pass-down}
 use Rattle.energy.proofs.Lists.{levels}
+
+-- the r entries before place r end with one that is at most s, and the entry at r, if there is one, is above s
+pub record Reached (table : List ℕ) (s r : ℕ) : Type 0 where
+  pub within : r ≤ length table
+  pub below : (i : ℕ) → suc i ≡ r → get_or table i 0 ≤ s
+  pub above : r < length table → s < get_or table r 0
+
+-- so do the entries of an ascending table that are at most s
+pub point_reached : (table : List ℕ) (s r : ℕ) → r ≤ length table
+    → IsPartitionPoint (λ y. leb y s ≡ true) (λ y. leb y s ≡ false) table r → Reached table s r
+point_reached table s r h p = record {
+  within = h;
+  below = λ i e. leb-true (get_or table i 0) s (p.0 i 0 (omega arith) (omega arith));
+  above = λ k. leb-false (get_or table r 0) s (p.1 r 0 (le_refl r) k);
+}
 
 abbrev pub threshold : (ℕ → ℕ) → (ℕ → ℕ) → ℕ → ℕ → Bool
 threshold need size i x = both (leb (need (suc i)) (size x)) (ltb (size (x - 1)) (need (suc i)))
@@ -39,6 +57,15 @@ module _ (need size : ℕ → ℕ) (up : (a b : ℕ) → a ≤ b → size a ≤ 
   pub too_few : (s i : ℕ) → i < length table → s < get_or table i 0 → T (leb (need (suc i)) (size s)) → ⊥
   too_few s i h k t =
       not-le_of_lt (missed i h) (le_trans (leb→le (need (suc i)) (size s) t) (up s (get_or table i 0 - 1) (omega arith)))
+
+  -- the least that meets a greater need is no less
+  pub rising : ((i j : ℕ) → i ≤ j → need i ≤ need j) → IsNonDecreasing table
+  rising more = IsNonDecreasingBy-from_default (λ x. x) table 0 (λ i j h k. go i j h k (dec_lt (get_or table j 0) (get_or table i 0)))
+    where
+      go : (i j : ℕ) → i ≤ j → j < length table → Dec (get_or table j 0 < get_or table i 0) → get_or table i 0 ≤ get_or table j 0
+      go i j h k (yes q) = absurd (too_few (get_or table j 0) i (omega arith) q
+          (le→leb (need (suc i)) (size (get_or table j 0)) (le_trans (more (suc i) (suc j) (omega arith)) (met j k))))
+      go i j h k (no q) = omega arith
 
 module _ (need size : ℕ → ℕ) (up : (a b : ℕ) → a ≤ b → size a ≤ size b)
     (table : List ℕ) (checked : T (every (threshold need size) 0 table))

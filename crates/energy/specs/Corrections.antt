@@ -1,5 +1,5 @@
 -- Document 01, "Background and reverberation": the numbers c and k.
-use Rattle.std.specs.Prelude.{Bool, ℕ, suc, ◌+◌, ◌*◌, ◌-◌, ◌^◌, ◌≤◌, leb, ℤ, pos, negsuc, ◌-ℤ◌}
+use Rattle.std.specs.Prelude.{Bool, ℕ, ◌+◌, ◌*◌, ◌-◌, ◌^◌, ◌≤◌, leb, ℤ, pos, negsuc, ◌-ℤ◌}
 use Rattle.laws.specs.Extremes.{greatest}
 use Rattle.energy.specs.Energies.{F}
 

@@ -7,6 +7,7 @@ use crate::lent::{Cell, MeanTables, RatingTables};
 
 // The factor that divides by 10^k, times 2^(33 + 3k). A `match` is no array: nothing is laid out for it; and with an arm for
 // each of the ten, no test is left in the code: the last is never taken.
+#[tactic(auto, unfolding(crate::specs::Tabled::inverse_of))]
 fn inverse(k: u32) -> u64
     requires { k < 10 }
     ensures { result ≡ inverse_of k }
@@ -31,7 +32,7 @@ fn divided(n: u32, k: u32) -> u32
     requires { (n ≤ 1000000000) × (k < 10) }
     ensures { result ≡ n / 10 ^ k }
 {
-    ((n as u64 * inverse(k)) >> (33 + 3 * k)) as u32
+    ((u64::from(n) * inverse(k)) >> (33 + 3 * k)) as u32
 }
 
 // F(d) by its first hundred numbers: the one at d mod 100, divided by ten for each hundred of d; above 900 it is 0.
@@ -42,8 +43,7 @@ fn by_hundreds(cells: &[Cell], d: u32) -> u32
     if 900 < d {
         return 0;
     }
-    let hundreds = d / 100;
-    divided(cells[(d - 100 * hundreds) as usize], hundreds)
+    divided(cells[(d % 100) as usize], d / 100)
 }
 
 impl<'a> RatingTables<'a> {
@@ -63,7 +63,7 @@ impl<'a> RatingTables<'a> {
 
 impl MeanTables {
     // F(d).
-    pub fn energy(&self, d: u32) -> u32
+    pub(crate) fn energy(&self, d: u32) -> u32
         ensures { result ≡ F d }
     {
         by_hundreds(&self.cells, d)

@@ -1,7 +1,7 @@
 // Sums of energies by tables of whole numbers: the scaled powers F, the steps of the thresholds H and G, the background
 // correction c and the reverberation steps k. Each function is proved equal to its rule for every argument in range. The
-// tables of ratings and of means are lent as cells, by those who made them, for one set or for many; the others are seen by the
-// one function that reads them.
+// tables of ratings are lent, laid out for one set or for many by those who rate; those of means are lent by those who take
+// means; the others are seen by the one function that reads them.
 #![tactic(auto)]
 
 mod constants;

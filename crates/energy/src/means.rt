@@ -9,6 +9,7 @@ use crate::steps::missed;
 impl MeanTables {
     // v(S), for a sum of three: no stretch holds more than two thresholds. Without a branch: which way it goes, nobody could
     // guess.
+    #[tactic(auto, using(crate::proofs::Counted::turn_fits))]
     fn step_of_sum(&self, s: u64) -> u32
         requires { Summed₃ s }
         ensures { result ≡ v s }

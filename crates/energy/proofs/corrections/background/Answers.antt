@@ -12,4 +12,4 @@ pub returns : goal.returns
 unfolding backgrounds
 returns c =
     let e : 60 + (c.args.d - 60) ≡ c.args.d = omega arith in
-    background-is (c.args.d - 60) (omega arith) ∙ ap c-of e
+    c.from.ensures ∙ background-is (c.args.d - 60) (omega arith) ∙ ap c-of e

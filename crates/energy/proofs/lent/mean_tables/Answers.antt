@@ -3,6 +3,6 @@ use Rattle.energy.proofs.Lists.{energies, means, ends, turns}
 use Rattle.energy.proofs.Turns.{mean-laid-is}
 use Rattle.energy.proofs.lent.mean_tables.Goals as goal
 
-pub returns : goal.returns
+pub invariant_of-result : goal.invariant_of-result
 unfolding energies means ends turns
-returns c = mean-laid-is
+invariant_of-result c = record { tabled = mean-laid-is }
