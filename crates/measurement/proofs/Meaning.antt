@@ -7,7 +7,8 @@ use Prim.Native.Nat.{ℕ, zero, suc, ◌+◌, ◌*◌, ◌-◌, ◌/◌, ◌%◌
 use native.Mathlib.Nat.{mul-add-div_right, div-eq_of_lt, lt_of_lt_of_le, add_comm, add-zero, pow-succ'}
 use native.Mathlib.Decide.{dec_lt}
 use native.Mathlib.Omega.{arith}
-use borrow.Author.Tests.{lt-ltb, eqb-true}
+use mathlib.Core.Logic.{◌⊎◌, inl, inr}
+use borrow.Author.Tests.{lt-ltb, eqb-true, eqb-false}
 use lib.Dec.{eqb}
 use lib.Ieee.{nan}
 use lib.ListN.{get_or}
@@ -20,7 +21,7 @@ use Rattle.quantity.specs.declared.quantities.Reading.TheVariants.{Level}
 use Rattle.quantity.specs.declared.refusals.Refusal.{Refusal}
 use Rattle.quantity.specs.declared.refusals.Refusal.TheVariants.{BandCount}
 use Rattle.quantity.specs.Refusals.{or_else}
-use Rattle.measurement.specs.Lists.{taken_at, value_of, limit_of, outcome_of, refusal_in, weight_of, marks_in, values_in, set_of, refused_list, list_by, list_of}
+use Rattle.measurement.specs.Lists.{taken_at, value_of, limit_of, fault_of, refusal_in, weight_of, marks_in, values_in, set_of, list_by, list_of}
 use Rattle.intake.proofs.Meaning.{taken-range}
 use Rattle.measurement.proofs.Runs.{marks-bound, value-at}
 use Rattle.laws.specs.Extremes.{one_if}
@@ -38,12 +39,11 @@ pub record First (readings : List Reading) (n i : ℕ) (r : Refusal) : Type 0 wh
 
 -- a reading that is taken
 pub record Kept (t : Result Taken Refusal) : Type 0 where
-  pub value : Tenths
-  pub limit : Bool
-  pub same : t ≡ Ok value limit
+  pub value : Taken
+  pub same : t ≡ Ok value
 
-after-accepted : (o : Option Refusal) (t : Result Taken Refusal) → or_else o (outcome_of t) ≡ None → (o ≡ None) × Kept t
-after-accepted None (Ok v l) e = (refl, record { value = v; limit = l; same = refl })
+after-accepted : (o : Option Refusal) (t : Result Taken Refusal) → or_else o (fault_of t) ≡ None → (o ≡ None) × Kept t
+after-accepted None (Ok x) e = (refl, record { value = x; same = refl })
 after-accepted None (Err r) e = clash cc
 after-accepted (Some r) t e = clash cc
 
@@ -93,9 +93,9 @@ module _ (readings : List Reading) where
   first-refusal zero r e = clash cc
   first-refusal (suc n) r e = go (refusal_in readings n) (taken_at readings n) refl refl e (λ f. first-refusal n r f)
     where
-      go : (o : Option Refusal) (t : Result Taken Refusal) → refusal_in readings n ≡ o → taken_at readings n ≡ t → or_else o (outcome_of t) ≡ Some r
+      go : (o : Option Refusal) (t : Result Taken Refusal) → refusal_in readings n ≡ o → taken_at readings n ≡ t → or_else o (fault_of t) ≡ Some r
           → (refusal_in readings n ≡ Some r → Met n r) → Met (suc n) r
-      go None (Ok v l) f g h below = clash cc
+      go None (Ok x) f g h below = clash cc
       go None (Err q) f g h below =
           record { at = n; first = record { within = omega arith; refused = cc; before = f } }
       go (Some q) t f g h below =
@@ -113,9 +113,8 @@ module _ (readings : List Reading) where
   pub value-range : (n k i : ℕ) → refusal_in readings n ≡ None → i < n → n ≤ k → in_range (get_or (values_in readings n k) i nought).0 ≡ true
   value-range n k i e h g =
       let t = all-kept n i h e in
-      let v : value_of (taken_at readings i) ≡ t.value = ap value_of t.same in
-      ap (λ (x : Tenths). in_range x.0) (value-kept n k i h g ∙ v)
-      ∙ taken-range (get_or readings i (Level nan)) t.value t.limit t.same
+      ap (λ (x : Tenths). in_range x.0) (value-kept n k i h g ∙ ap value_of t.same)
+      ∙ taken-range (get_or readings i (Level nan)) t.value t.same
 
   -- ---- bit i of the marks is the mark of reading i, and 0 past the last
 
@@ -139,37 +138,38 @@ module _ (readings : List Reading) where
   pub mark-past : (n i : ℕ) → n ≤ i → marks_in readings n / 2 ^ i ≡ 0
   mark-past n i h = div-eq_of_lt (lt_of_lt_of_le (marks-bound readings n) (pow_mono h))
 
--- ---- for who takes a list: where the outcome is no refusal, the count is right, and the set is that of the readings
+-- ---- for who takes a list: where it is taken, the count is right, and the set is that of the readings
 
-pub record Accepts (readings : List Reading) (len bands : ℕ) (r : Result BandSet Refusal) : Type 0 where
+pub record Accepts (readings : List Reading) (len bands : ℕ) (s : BandSet) : Type 0 where
   pub count : len ≡ bands
   pub accepted : refusal_in readings bands ≡ None
-  pub taken : r.set ≡ set_of readings bands
+  pub taken : s ≡ set_of readings bands
 
-pub list-accepts : (readings : List Reading) (len bands : ℕ) (r : Result BandSet Refusal) → r ≡ list_of readings len bands → r.outcome ≡ None
-    → Accepts readings len bands r
+pub list-accepts : (readings : List Reading) (len bands : ℕ) (s : BandSet) → list_of readings len bands ≡ Ok s → Accepts readings len bands s
 unfolding list_of
-list-accepts readings len bands r e f = go (eqb len bands) (refusal_in readings bands) (λ k. eqb-true len bands k) refl e
+list-accepts readings len bands s e = go (eqb len bands) (refusal_in readings bands) (λ k. eqb-true len bands k) refl e
   where
     go : (b : Bool) (o : Option Refusal) → (b ≡ true → len ≡ bands) → refusal_in readings bands ≡ o
-        → r ≡ cond b (list_by o readings bands) (refused_list BandCount) → Accepts readings len bands r
-    go true None h g k = record { count = h refl; accepted = g; taken = ap (λ (x : Result BandSet Refusal). x.set) k }
-    go true (Some q) h g k = clash (cc (ap (λ (x : Result BandSet Refusal). x.outcome) k))
-    go false o h g k = clash (cc (ap (λ (x : Result BandSet Refusal). x.outcome) k))
+        → cond b (list_by o readings bands) (Err BandCount) ≡ Ok s → Accepts readings len bands s
+    go true None h g k = record { count = h refl; accepted = g; taken = cc }
+    go true (Some q) h g k = clash cc
+    go false o h g k = clash cc
 
--- each band of an accepted list is in range
-pub list-range : (readings : List Reading) (len bands : ℕ) (r : Result BandSet Refusal) (i : ℕ) → Accepts readings len bands r → i < bands → bands ≤ 16
-    → in_range (band_of r.set i) ≡ true
-list-range readings len bands r i a h g =
-    ap (λ (s : BandSet). in_range (band_of s i)) a.taken ∙ value-range readings bands 16 i a.accepted h g
+-- each band of a list that was taken is in range
+pub list-range : (readings : List Reading) (len bands : ℕ) (s : BandSet) (i : ℕ) → Accepts readings len bands s → i < bands → bands ≤ 16
+    → in_range (band_of s i) ≡ true
+list-range readings len bands s i a h g =
+    ap (λ (x : BandSet). in_range (band_of x i)) a.taken ∙ value-range readings bands 16 i a.accepted h g
 
--- where it is a refusal, nothing else is told
-pub list-refuses : (readings : List Reading) (len bands : ℕ) (r : Result BandSet Refusal) (q : Refusal) → r ≡ list_of readings len bands → r.outcome ≡ Some q
-    → r ≡ refused_list q
+-- where it is refused: for its count, whatever the readings, or else with their first refusal
+pub list-refuses : (readings : List Reading) (len bands : ℕ) (q : Refusal) → list_of readings len bands ≡ Err q
+    → ((len ≡ bands → ⊥) × (q ≡ BandCount)) ⊎ ((len ≡ bands) × (refusal_in readings bands ≡ Some q))
 unfolding list_of
-list-refuses readings len bands r q e f = go (eqb len bands) (refusal_in readings bands) e
+list-refuses readings len bands q e = go (eqb len bands) (refusal_in readings bands) (λ k. eqb-true len bands k) (λ k. eqb-false len bands k) refl e
   where
-    go : (b : Bool) (o : Option Refusal) → r ≡ cond b (list_by o readings bands) (refused_list BandCount) → r ≡ refused_list q
-    go true None k = clash (cc (ap (λ (x : Result BandSet Refusal). x.outcome) k))
-    go true (Some p) k = k ∙ ap refused_list (cc (ap (λ (x : Result BandSet Refusal). x.outcome) k))
-    go false o k = k ∙ ap refused_list (cc (ap (λ (x : Result BandSet Refusal). x.outcome) k))
+    go : (b : Bool) (o : Option Refusal) → (b ≡ true → len ≡ bands) → (b ≡ false → len ≡ bands → ⊥) → refusal_in readings bands ≡ o
+        → cond b (list_by o readings bands) (Err BandCount) ≡ Err q
+        → ((len ≡ bands → ⊥) × (q ≡ BandCount)) ⊎ ((len ≡ bands) × (refusal_in readings bands ≡ Some q))
+    go true None h d g k = clash cc
+    go true (Some p) h d g k = inr (h refl, cc)
+    go false o h d g k = inl (d refl, cc)

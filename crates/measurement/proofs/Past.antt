@@ -13,8 +13,8 @@ use Rattle.laws.specs.Lists.{listed}
 use Rattle.quantity.specs.Refusals.{or_else}
 use Rattle.quantity.specs.declared.quantities.Reading.{Reading}
 use Rattle.quantity.specs.declared.refusals.Refusal.TheVariants.{BandCount}
-use Rattle.measurement.specs.Lists.{taken_at, value_of, limit_of, outcome_of, refusal_in, weight_of, marks_in, value_in, values_in, refused_list, all_by, all_of, list_by, list_of}
-use Rattle.std.specs.Prelude.{Result, Option, Some, None}
+use Rattle.measurement.specs.Lists.{taken_at, value_of, limit_of, fault_of, refusal_in, weight_of, marks_in, value_in, values_in, all_by, all_of, list_by, list_of}
+use Rattle.std.specs.Prelude.{Result, Ok, Err, Option, Some, None}
 use Rattle.quantity.specs.declared.refusals.Refusal.{Refusal}
 use Rattle.intake.specs.declared.singles.Taken.{Taken}
 
@@ -27,7 +27,7 @@ module _ (a b : List Reading) where
   unfolding refusal_in
   refusal-same zero h = refl
   refusal-same (suc n) h =
-      ap₂ (λ (o : Option Refusal) (t : Result Taken Refusal). or_else o (outcome_of t)) (refusal-same n (λ i q. h i (omega arith))) (h n (le_refl (suc n)))
+      ap₂ (λ (o : Option Refusal) (t : Result Taken Refusal). or_else o (fault_of t)) (refusal-same n (λ i q. h i (omega arith))) (h n (le_refl (suc n)))
 
   marks-same : (n : ℕ) → Alike n → marks_in a n ≡ marks_in b n
   unfolding marks_in
@@ -51,14 +51,14 @@ module _ (a b : List Reading) where
   all_past n h = ap (λ (o : Option Refusal). all_by o a n) (refusal-same n h) ∙ go (refusal_in b n)
     where
       go : (o : Option Refusal) → all_by o a n ≡ all_by o b n
-      go None = λ j. record { outcome = None; values = values_same n 48 h j; marks = marks-same n h j }
+      go None = λ j. Ok (record { values = values_same n 48 h j; marks = marks-same n h j })
       go (Some r) = refl
 
   list-alike : (n : ℕ) → Alike n → list_by (refusal_in a n) a n ≡ list_by (refusal_in b n) b n
   list-alike n h = ap (λ (o : Option Refusal). list_by o a n) (refusal-same n h) ∙ go (refusal_in b n)
     where
       go : (o : Option Refusal) → list_by o a n ≡ list_by o b n
-      go None = λ j. record { outcome = None; set = record { values = values_same n 16 h j; marks = marks-same n h j; len = n } }
+      go None = λ j. Ok (record { values = values_same n 16 h j; marks = marks-same n h j; len = n })
       go (Some r) = refl
 
   pub list-past : (len bands : ℕ) → Alike len → list_of a len bands ≡ list_of b len bands
@@ -66,6 +66,6 @@ module _ (a b : List Reading) where
   list-past len bands h = go (eqb len bands) refl
     where
       go : (t : Bool) → eqb len bands ≡ t
-          → cond t (list_by (refusal_in a bands) a bands) (refused_list BandCount) ≡ cond t (list_by (refusal_in b bands) b bands) (refused_list BandCount)
+          → cond t (list_by (refusal_in a bands) a bands) (Err BandCount) ≡ cond t (list_by (refusal_in b bands) b bands) (Err BandCount)
       go true e = list-alike bands (subst Alike (eqb-true len bands e) h)
       go false e = refl

@@ -20,9 +20,10 @@ use Rattle.quantity.specs.declared.refusals.Refusal.{Refusal}
 use Rattle.quantity.specs.declared.refusals.Refusal.TheVariants.{BandCount}
 use Rattle.quantity.specs.Refusals.{or_else}
 use Rattle.measurement.specs.declared.lists.Readings.{Readings}
-use Rattle.measurement.specs.Lists.{taken_at, value_of, limit_of, outcome_of, refusal_in, weight_of, marks_in, value_in, values_in, refused_all, refused_list, all_by, all_of, list_by, list_of}
+use Rattle.measurement.specs.Lists.{taken_at, value_of, limit_of, fault_of, refusal_in, weight_of, marks_in, value_in, values_in, all_by, all_of, list_of}
 use Rattle.quantity.specs.Quantities.{nought}
 use Rattle.std.specs.Prelude.{Result, Ok, Err, Option, Some, None}
+use Rattle.laws.proofs.Tests.{clash}
 use Rattle.quantity.specs.declared.quantities.BandSet.{BandSet}
 use Rattle.intake.specs.declared.singles.Taken.{Taken}
 
@@ -102,7 +103,7 @@ module _ (readings : List Reading) where
 
   -- ---- refusals
 
-  pub refusal-more : (n : ℕ) → refusal_in readings (n + 1) ≡ or_else (refusal_in readings n) (outcome_of (taken_at readings n))
+  pub refusal-more : (n : ℕ) → refusal_in readings (n + 1) ≡ or_else (refusal_in readings n) (fault_of (taken_at readings n))
   unfolding refusal_in
   refusal-more n = ap (refusal_in readings) (add-one n)
 
@@ -111,117 +112,104 @@ module _ (readings : List Reading) where
   refusal-stays n zero r e = ap (refusal_in readings) (zero-add n) ∙ e
   refusal-stays n (suc k) r e =
       let q : suc k + n ≡ suc (k + n) = omega arith in
-      ap (refusal_in readings) q ∙ ap (λ (o : Option Refusal). or_else o (outcome_of (taken_at readings (k + n)))) (refusal-stays n k r e)
+      ap (refusal_in readings) q ∙ ap (λ (o : Option Refusal). or_else o (fault_of (taken_at readings (k + n)))) (refusal-stays n k r e)
 
 -- ---- the loop over the readings: so far none was refused
 
-pub record Taking (readings : List Reading) (count : ℕ) (values : List Tenths) (marks i : ℕ) : Type 0 where
-  pub within : i ≤ count
+pub record Taking (readings : List Reading) (values : List Tenths) (marks i : ℕ) : Type 0 where
   pub accepted : refusal_in readings i ≡ None
   pub held : values ≡ values_in readings i 48
   pub marked : marks ≡ marks_in readings i
 
-pub taking-none : (readings : List Reading) (count : ℕ) → Taking readings count (replicate 48 nought) 0 0
+pub taking-none : (readings : List Reading) → Taking readings (replicate 48 nought) 0 0
 unfolding refusal_in marks_in values_in listed
-taking-none readings count = record { within = omega arith; accepted = refl; held = refl; marked = refl }
+taking-none readings = record { accepted = refl; held = refl; marked = refl }
 
-pub taking-marks : (readings : List Reading) (count : ℕ) (values : List Tenths) (marks i : ℕ) → count ≤ 48 → Taking readings count values marks i → marks ≤ 281474976710656
-taking-marks readings count values marks i h t =
-    omega (arith, t.marked, marks-bound readings i, pow_mono {i = i} {j = 48} (omega (arith, t.within)))
+-- the marks of 48 readings fit their number
+pub marks-fit : (readings : List Reading) (n : ℕ) → n ≤ 48 → marks_in readings n < 18446744073709551616
+marks-fit readings n h = omega (arith, marks-bound readings n, pow_mono {i = n} {j = 48} h)
 
-pub weight-small : (b : Bool) (i : ℕ) → i < 48 → weight_of b i ≤ 281474976710656
-weight-small true i h = pow_mono {i = i} {j = 48} (omega arith)
-weight-small false i h = omega arith
+pub taking-fits : (readings : List Reading) (values : List Tenths) (marks i : ℕ) (x : Taken) (w : ℕ) → i < 48
+    → Taking readings values marks i → Ok x ≡ taken_at readings i → w ≡ weight_of x.limit i → marks + w < 18446744073709551616
+taking-fits readings values marks i x w h t e f =
+    omega (arith, t.marked, f, marks-more readings i, marks-fit readings (i + 1) (omega arith), ap (λ (y : Result Taken Refusal). weight_of (limit_of y) i) (sym e))
 
 -- a reading that is taken
-pub taking-more : (readings : List Reading) (count : ℕ) (values : List Tenths) (marks i : ℕ) (v : Tenths) (limit : Bool) (w : ℕ)
-    → count ≤ 48 → i < count → Taking readings count values marks i → taken_at readings i ≡ Ok v limit → w ≡ weight_of limit i
-    → Taking readings count (set values i v) (marks + w) (i + 1)
-taking-more readings count values marks i v limit w h g t e f = record {
-  within = omega arith;
+pub taking-more : (readings : List Reading) (values : List Tenths) (marks i : ℕ) (x : Taken) (w : ℕ) → i < 48
+    → Taking readings values marks i → Ok x ≡ taken_at readings i → w ≡ weight_of x.limit i
+    → Taking readings (set values i x.value) (marks + w) (i + 1)
+taking-more readings values marks i x w h t e f = record {
   accepted =
       refusal-more readings i
-      ∙ ap (λ (o : Option Refusal). or_else o (outcome_of (taken_at readings i))) t.accepted
-      ∙ ap outcome_of e;
+      ∙ ap (λ (o : Option Refusal). or_else o (fault_of (taken_at readings i))) t.accepted
+      ∙ ap fault_of (sym e);
   held =
-      ap (λ (l : List Tenths). set l i v) t.held
-      ∙ ap (λ (x : Result Taken Refusal). set (values_in readings i 48) i (value_of x)) (sym e)
-      ∙ values-more readings i 48 (omega arith);
-  marked = omega (arith, t.marked, f, marks-more readings i, ap (λ (x : Result Taken Refusal). weight_of (limit_of x) i) e);
+      ap (λ (l : List Tenths). set l i x.value) t.held
+      ∙ ap (λ (y : Result Taken Refusal). set (values_in readings i 48) i (value_of y)) e
+      ∙ values-more readings i 48 h;
+  marked = omega (arith, t.marked, f, marks-more readings i, ap (λ (y : Result Taken Refusal). weight_of (limit_of y) i) (sym e));
 }
 
 -- all are taken
-pub taken-all : (readings : List Reading) (count : ℕ) (values : List Tenths) (marks i : ℕ) → count ≤ i → Taking readings count values marks i
-    → ◌≡◌ {A = Readings} (record { outcome = None; values = values; marks = marks }) (all_of readings count)
+pub taken-all : (readings : List Reading) (values : List Tenths) (marks i n : ℕ) → i ≡ n → Taking readings values marks i
+    → ◌≡◌ {A = Result Readings Refusal} (Ok (record { values = values; marks = marks })) (all_of readings n)
 unfolding all_of
-taken-all readings count values marks i h t =
-    let e : i ≡ count = omega (arith, t.within) in
-    ap (λ (l : List Tenths). record { outcome = None; values = l; marks = marks }) t.held
-    ∙ ap (λ (m : ℕ). record { outcome = None; values = values_in readings i 48; marks = m }) t.marked
-    ∙ ap (λ (o : Option Refusal). all_by o readings i) (sym t.accepted)
-    ∙ ap (all_of readings) e
+taken-all readings values marks i n e t = rw (t.held, t.marked, ← e, t.accepted)
 
 -- one is refused
 pub refused-at : (readings : List Reading) (count : ℕ) (values : List Tenths) (marks i : ℕ) (r : Refusal) → i < count
-    → Taking readings count values marks i → taken_at readings i ≡ Err r → refusal_in readings count ≡ Some r
+    → Taking readings values marks i → Err r ≡ taken_at readings i → Err r ≡ all_of readings count
+unfolding all_of
 refused-at readings count values marks i r h t e =
     let q : count - (i + 1) + (i + 1) ≡ count = omega arith in
-    ap (refusal_in readings) (sym q)
-    ∙ refusal-stays readings (i + 1) (count - (i + 1)) r
-    (refusal-more readings i ∙ ap (λ (o : Option Refusal). or_else o (outcome_of (taken_at readings i))) t.accepted ∙ ap outcome_of e)
+    let met : refusal_in readings (i + 1) ≡ Some r =
+    refusal-more readings i ∙ ap (λ (o : Option Refusal). or_else o (fault_of (taken_at readings i))) t.accepted ∙ ap fault_of (sym e) in
+    rw (ap (refusal_in readings) (sym q) ∙ refusal-stays readings (i + 1) (count - (i + 1)) r met)
 
-pub refused_all_lem : (readings : List Reading) (count : ℕ) (r : Refusal) → refusal_in readings count ≡ Some r → refused_all r ≡ all_of readings count
+-- ---- and back: what was taken is what the definition says of accepted readings, and a refusal is the first
+
+pub record Whole (readings : List Reading) (n : ℕ) (s : Readings) : Type 0 where
+  pub accepted : refusal_in readings n ≡ None
+  pub values : s.values ≡ values_in readings n 48
+  pub marks : s.marks ≡ marks_in readings n
+
+pub all-taken : (readings : List Reading) (n : ℕ) (s : Readings) → all_of readings n ≡ Ok s → Whole readings n s
 unfolding all_of
-refused_all_lem readings count r e = ap (λ (o : Option Refusal). all_by o readings count) (sym e)
+all-taken readings n s e = go (refusal_in readings n) refl e
+  where
+    go : (o : Option Refusal) → refusal_in readings n ≡ o → all_by o readings n ≡ Ok s → Whole readings n s
+    go None f g =
+        let h : ◌≡◌ {A = Readings} s (record { values = values_in readings n 48; marks = marks_in readings n }) = cc in
+        record { accepted = f; values = ap (λ (x : Readings). x.values) h; marks = ap (λ (x : Readings). x.marks) h }
+    go (Some r) f g = clash cc
 
--- ---- the copy of the lowest sixteen
+pub all-refused : (readings : List Reading) (n : ℕ) (r : Refusal) → all_of readings n ≡ Err r → refusal_in readings n ≡ Some r
+unfolding all_of
+all-refused readings n r e = go (refusal_in readings n) e
+  where
+    go : (o : Option Refusal) → all_by o readings n ≡ Err r → o ≡ Some r
+    go None g = clash cc
+    go (Some q) g = cc
 
-pub record Copied (values out : List Tenths) (i : ℕ) : Type 0 where
-  pub within : i ≤ 16
-  pub whole : length out ≡ 16
-  pub same : take i out ≡ take i values
+-- ---- a band list, from what becomes of its readings
 
--- ---- a band list, from the outcome of its readings
-
-pub list_count : (readings : List Reading) (len bands : ℕ) → (len ≡ bands → ⊥) → refused_list BandCount ≡ list_of readings len bands
+pub list_count : (readings : List Reading) (len bands : ℕ) → (len ≡ bands → ⊥) → Err BandCount ≡ list_of readings len bands
 unfolding list_of
 list_count readings len bands d = rw (ne_eqb len bands d)
 
-list_same : (readings : List Reading) (len bands : ℕ) → len ≡ bands → list_by (refusal_in readings bands) readings bands ≡ list_of readings len bands
+pub list-refused : (readings : List Reading) (len bands : ℕ) (r : Refusal) → len ≡ bands → Err r ≡ all_of readings bands → Err r ≡ list_of readings len bands
 unfolding list_of
-list_same readings len bands e = rw (eq-eqb len bands e)
+list-refused readings len bands r e f = rw (eq-eqb len bands e, all-refused readings bands r (sym f))
 
--- the readings' outcome is that of the list
-pub outcome-is : (readings : List Reading) (n : ℕ) (all : Readings) → all ≡ all_of readings n → all.outcome ≡ refusal_in readings n
-unfolding all_of
-outcome-is readings n all e = ap (λ (a : Readings). a.outcome) e ∙ go (refusal_in readings n)
-  where
-    go : (o : Option Refusal) → (all_by o readings n).outcome ≡ o
-    go None = refl
-    go (Some r) = refl
+-- the marks of a set fit their number
+pub list-marks : (readings : List Reading) (n : ℕ) (s : Readings) → n ≤ 16 → Ok s ≡ all_of readings n → s.marks < 65536
+list-marks readings n s h e =
+    omega (arith, (all-taken readings n s (sym e)).marks, marks-bound readings n, pow_mono {i = n} {j = 16} h)
 
-pub list-refused : (readings : List Reading) (len bands : ℕ) (all : Readings) (r : Refusal) → len ≡ bands → all ≡ all_of readings bands
-    → all.outcome ≡ Some r → refused_list r ≡ list_of readings len bands
-list-refused readings len bands all r e f g =
-    ap (λ (o : Option Refusal). list_by o readings bands) (sym g ∙ outcome-is readings bands all f) ∙ list_same readings len bands e
-
--- what was taken, where nothing was refused
-pub accepted-is : (readings : List Reading) (n : ℕ) (all : Readings) → all ≡ all_of readings n → all.outcome ≡ None → all ≡ all_by None readings n
-unfolding all_of
-accepted-is readings n all f g = f ∙ ap (λ (o : Option Refusal). all_by o readings n) (sym (outcome-is readings n all f) ∙ g)
-
-pub list-marks : (readings : List Reading) (n : ℕ) (all : Readings) → n ≤ 16 → all ≡ all_of readings n → all.outcome ≡ None → all.marks < 65536
-list-marks readings n all h f g =
-    omega (arith, ap (λ (a : Readings). a.marks) (accepted-is readings n all f g), marks-bound readings n, pow_mono {i = n} {j = 16} h)
-
-pub list-accepted : (readings : List Reading) (len bands : ℕ) (all : Readings) (values : List Tenths) → len ≡ bands → all ≡ all_of readings bands
-    → all.outcome ≡ None → values ≡ take 16 all.values
-    → ◌≡◌ {A = (Result BandSet Refusal)} (record { outcome = None; set = record { values = values; marks = all.marks; len = bands } }) (list_of readings len bands)
-list-accepted readings len bands all values e f g h =
-    let a : all ≡ all_by None readings bands = accepted-is readings bands all f g in
-    let v : values ≡ values_in readings bands 16 =
-    h ∙ ap (λ (x : Readings). take 16 x.values) a ∙ values-head readings bands 48 16 (omega arith) in
-    ap (λ (l : List Tenths). record { outcome = None; set = record { values = l; marks = all.marks; len = bands } }) v
-    ∙ ap (λ (x : Readings). record { outcome = None; set = record { values = values_in readings bands 16; marks = x.marks; len = bands } }) a
-    ∙ ap (λ (o : Option Refusal). list_by o readings bands) (sym g ∙ outcome-is readings bands all f)
-    ∙ list_same readings len bands e
+pub list-accepted : (readings : List Reading) (len bands : ℕ) (s : Readings) (values : List Tenths) → len ≡ bands → Ok s ≡ all_of readings bands
+    → values ≡ take 16 s.values
+    → ◌≡◌ {A = Result BandSet Refusal} (Ok (record { values = values; marks = s.marks; len = bands })) (list_of readings len bands)
+unfolding list_of
+list-accepted readings len bands s values e f g =
+    let w = all-taken readings bands s (sym f) in
+    rw (eq-eqb len bands e, w.accepted, g, w.values, w.marks, values-head readings bands 48 16 (omega arith))

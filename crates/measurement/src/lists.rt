@@ -40,9 +40,7 @@ fn head(values: [Tenths; 48]) -> [Tenths; 16]
     ensures { result ≡ head_of values }
 {
     let mut out = [Tenths(0); 16];
-    for i in 0..16 {
-        out[i] = values[i];
-    }
+    out.copy_from_slice(&values[..16]);
     out
 }
 

@@ -1,11 +1,7 @@
 -- `measurement::lists::take_all` meets its contract. The invariant: the readings so far were taken, their values and marks are
--- those of the definition. The measure is how many are left. Assumes nothing.
-use Prim.Native.Nat.{◌-◌}
+-- those of the definition. Assumes nothing.
 use Rattle.measurement.proofs.Runs.{Taking}
 use Rattle.measurement.proofs.lists.take_all.Given as goal
 
 abbrev pub invariant-loop-i : goal.invariant-loop-i
-invariant-loop-i l = Taking l.readings l.count l.values l.marks l.i
-
-abbrev pub decreases-loop-i : goal.decreases-loop-i
-decreases-loop-i l = l.count - l.i
+invariant-loop-i l = Taking l.readings l.values l.marks l.i
