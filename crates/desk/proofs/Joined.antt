@@ -9,7 +9,7 @@ use Rattle.kinds.specs.declared.kinds.Kind.{Kind}
 use Rattle.kinds.specs.Kinds.{bands_of}
 use Rattle.rating.specs.Sheets.{rated_of}
 use Rattle.desk.specs.Calls.{rated_by, readings_rated}
-use Rattle.std.specs.Prelude.{Result, Err, Some, None}
+use Rattle.std.specs.Prelude.{Result, Ok, Err}
 use Rattle.quantity.specs.declared.quantities.BandSet.{BandSet}
 use Rattle.rating.specs.declared.sheets.Sheet.{Sheet}
 

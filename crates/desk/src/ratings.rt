@@ -28,6 +28,6 @@ pub fn rate(kind: Kind, set: BandSet) -> Result<Sheet, Refusal>
 pub fn rate_readings(kind: Kind, readings: [Reading; 48], len: usize) -> Result<Sheet, Refusal>
     ensures { rated_answer result ≡ rated_answer (readings_rated kind readings len) }
 {
-    let set = take_list(readings, len, bands_of(kind))?;
-    rating::rate(kind, set)
+    let taken = take_list(readings, len, bands_of(kind))?;
+    rating::rate(kind, taken)
 }
