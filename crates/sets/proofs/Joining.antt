@@ -2,7 +2,7 @@
 -- the last band, and the list in that order. Assumes nothing.
 use mathlib.Core.Path.{◌≡◌, refl, sym, ◌∙◌, ap, ap₂, subst}
 use mathlib.Core.Bool.{Bool, true, false, cond}
-use mathlib.Core.List.{List, [], ◌∷◌, ◌++◌, map, map-append, append-nil}
+use mathlib.Core.List.{List, [], ◌∷◌, ◌++◌, map, map-append}
 use Prim.Native.Nat.{ℕ, zero, suc, ◌+◌, ◌-◌, ◌^◌, ◌≤◌, ◌<◌, min}
 use native.Mathlib.Nat.{le_refl, le_of_eq, not-le_of_lt, zero-add, add-zero, add_assoc}
 use native.Mathlib.Numerals.{add-one}
@@ -172,31 +172,8 @@ module _ (g : ℕ → ℕ) (need n : ℕ) where
   unfolding joined_by choose filter
   joined-none m i = ap (λ (p : ℕ). cond (ok p) (p ∷ []) []) (add-zero m)
 
-  -- all sets of more than so many bands, up to three
-  abbrev sized : ℕ → List ℕ
-  sized b = joined_by g need n b 0 0
-
-  unfoldable pub larger : ℕ → List ℕ
-  larger zero = sized 1 ++ (sized 2 ++ sized 3)
-  larger (suc zero) = sized 2 ++ sized 3
-  larger (suc (suc zero)) = sized 3
-  larger (suc (suc (suc b))) = []
-
-  pub larger-step : (b : ℕ) → b < 3 → larger b ≡ joined_by g need n (b + 1) 0 0 ++ larger (b + 1)
-  unfolding larger
-  larger-step zero h = refl
-  larger-step (suc zero) h = refl
-  larger-step (suc (suc zero)) h = sym (append-nil (sized 3))
-  larger-step (suc (suc (suc b))) h = absurd (omega arith)
-
-  pub larger-end : (b : ℕ) → 3 ≤ b → larger b ≡ []
-  unfolding larger
-  larger-end zero h = absurd (omega arith)
-  larger-end (suc zero) h = absurd (omega arith)
-  larger-end (suc (suc zero)) h = absurd (omega arith)
-  larger-end (suc (suc (suc b))) h = refl
-
-  sized-is : (b : ℕ) → filter ok (choose b n 0) ≡ sized b
+  -- ---- the list by size: the sets of one band, of two and of three, each those of the empty part
+  sized-is : (b : ℕ) → filter ok (choose b n 0) ≡ joined_by g need n b 0 0
   unfolding joined_by
   sized-is b =
       let whole : n ≡ n - 0 = omega arith in
@@ -206,9 +183,9 @@ module _ (g : ℕ → ℕ) (need n : ℕ) where
       onto-none [] = refl
       onto-none (a ∷ l) = ap₂ (λ (c : ℕ) (r : List ℕ). c ∷ r) (sym (zero-add a)) (onto-none l)
 
-  pub larger-all : by_gains g need n ≡ larger 0
-  unfolding by_gains masks_in_order larger
-  larger-all =
+  pub by-size : by_gains g need n ≡ joined_by g need n 1 0 0 ++ (joined_by g need n 2 0 0 ++ joined_by g need n 3 0 0)
+  unfolding by_gains masks_in_order
+  by-size =
       filter-append ok (choose 1 n 0) (choose 2 n 0 ++ choose 3 n 0)
       ∙ ap (λ (l : List ℕ). filter ok (choose 1 n 0) ++ l) (filter-append ok (choose 2 n 0) (choose 3 n 0))
       ∙ (λ i. sized-is 1 i ++ (sized-is 2 i ++ sized-is 3 i))
