@@ -1,8 +1,10 @@
 // Sets put together band by band.
-ghost use Rattle.std.specs.Prelude.{◌≡◌, ◌+◌, ◌^◌, ◌≤◌, ◌<◌, min, length};
+ghost use Rattle.std.specs.Prelude.{◌≡◌, ℕ, ◌+◌, ◌^◌, ◌≤◌, ◌<◌, min, length};
 ghost use Rattle.curve.specs.Levels.{at};
 ghost use Rattle.laws.specs.Lists.{front};
 ghost use Rattle.sets.specs.Gains.{by_gains, joined_by, Bounded, PartOf};
+
+use std::marker::PhantomData;
 
 // A set of bands as far as it is put together: its bands, the sum and the least of their gains, and the first band that may
 // follow.
@@ -29,88 +31,61 @@ fn joined(part: Part, band: usize, gain: u32) -> Part
     }
 }
 
-// Writes the listed sets of a part and one band more to the front of `out`, in order, and counts them: with the last band the
-// gains make up what is needed, without it, or without the least of the others, they do not.
-fn put_last(part: Part, gains: &[u32; 16], bands: usize, need: u32, out: &mut [u16]) -> usize
-    requires part_of { PartOf (at gains.now) part.mask part.sum part.least part.from }
-    requires bounded { Bounded gains.now bands need }
-    requires room { length (joined_by (at gains.now) need bands 1 part.mask part.from) ≤ length out.old }
-    ensures value { result ≡ length (joined_by (at gains.now) need bands 1 part.mask part.from) }
-    ensures out_after { out.new ≡ front (joined_by (at gains.now) need bands 1 part.mask part.from) out.old }
-{
-    if need <= part.sum {
-        return 0;
-    }
-    let left = need - part.sum;
-    let bound = left + part.least;
-    let mut count = 0;
-    for i in part.from..bands {
-        if left <= gains[i] {
-            if gains[i] < bound {
+// The bands that a part still gains: one, or one and then those of R. Each number of them is a type of its own, with nested loops
+// of its own: the compiler lays them into one another, which a function that calls itself would keep apart.
+trait Rest {
+    // how many they are
+    ghost more: { ℕ };
+
+    // Writes the listed sets of a part and these bands to the front of `out`, in order, and counts them.
+    fn put(part: Part, gains: &[u32; 16], bands: usize, need: u32, out: &mut [u16]) -> usize
+        requires part_of { PartOf (at gains.now) part.mask part.sum part.least part.from }
+        requires bounded { Bounded gains.now bands need }
+        requires room { length (joined_by (at gains.now) need bands more part.mask part.from) ≤ length out.old }
+        ensures value { result ≡ length (joined_by (at gains.now) need bands more part.mask part.from) }
+        ensures out_after { out.new ≡ front (joined_by (at gains.now) need bands more part.mask part.from) out.old };
+}
+
+struct One {}
+
+struct Then<R>(PhantomData<R>);
+
+type Two = Then<One>;
+
+type Three = Then<Two>;
+
+impl Rest for One {
+    ghost more = { 1 };
+
+    // With the last band the gains make up what is needed; without it, or without the least of the others, they do not.
+    fn put(part: Part, gains: &[u32; 16], bands: usize, need: u32, out: &mut [u16]) -> usize {
+        if need <= part.sum {
+            return 0;
+        }
+        let left = need - part.sum;
+        let bound = left + part.least;
+        let mut count = 0;
+        for i in part.from..bands {
+            if left <= gains[i] && gains[i] < bound {
                 out[count] = part.mask + (1 << i);
                 count += 1;
             }
         }
+        count
     }
-    count
 }
 
-// Writes the listed sets of a part and two bands more to the front of `out`, in order, and counts them.
-fn put_two(part: Part, gains: &[u32; 16], bands: usize, need: u32, out: &mut [u16]) -> usize
-    requires part_of { PartOf (at gains.now) part.mask part.sum part.least part.from }
-    requires bounded { Bounded gains.now bands need }
-    requires room { length (joined_by (at gains.now) need bands 2 part.mask part.from) ≤ length out.old }
-    ensures value { result ≡ length (joined_by (at gains.now) need bands 2 part.mask part.from) }
-    ensures out_after { out.new ≡ front (joined_by (at gains.now) need bands 2 part.mask part.from) out.old }
-{
-    let mut count = 0;
-    for i in part.from..bands {
-        let longer = joined(part, i, gains[i]);
-        count += put_last(longer, gains, bands, need, &mut out[count..]);
-    }
-    count
-}
+impl<R: Rest> Rest for Then<R> {
+    ghost more = { R.more + 1 };
 
-// Writes the listed sets of a part and three bands more to the front of `out`, in order, and counts them.
-fn put_three(part: Part, gains: &[u32; 16], bands: usize, need: u32, out: &mut [u16]) -> usize
-    requires part_of { PartOf (at gains.now) part.mask part.sum part.least part.from }
-    requires bounded { Bounded gains.now bands need }
-    requires room { length (joined_by (at gains.now) need bands 3 part.mask part.from) ≤ length out.old }
-    ensures value { result ≡ length (joined_by (at gains.now) need bands 3 part.mask part.from) }
-    ensures out_after { out.new ≡ front (joined_by (at gains.now) need bands 3 part.mask part.from) out.old }
-{
-    let mut count = 0;
-    for i in part.from..bands {
-        let longer = joined(part, i, gains[i]);
-        count += put_two(longer, gains, bands, need, &mut out[count..]);
+    fn put(part: Part, gains: &[u32; 16], bands: usize, need: u32, out: &mut [u16]) -> usize {
+        let mut count = 0;
+        for i in part.from..bands {
+            let longer = joined(part, i, gains[i]);
+            count += R::put(longer, gains, bands, need, &mut out[count..]);
+        }
+        count
     }
-    count
-}
-
-// Writes the listed sets of a part and `more` bands and one to the front of `out`, in order, and counts them. Three nested loops:
-// the compiler lays them into one another, which a function that calls itself would keep apart.
-fn put_sets(
-    more: u32,
-    part: Part,
-    gains: &[u32; 16],
-    bands: usize,
-    need: u32,
-    out: &mut [u16],
-) -> usize
-    requires more_bound { more < 3 }
-    requires part_of { PartOf (at gains.now) part.mask part.sum part.least part.from }
-    requires bounded { Bounded gains.now bands need }
-    requires room { length (joined_by (at gains.now) need bands (more + 1) part.mask part.from) ≤ length out.old }
-    ensures value { result ≡ length (joined_by (at gains.now) need bands (more + 1) part.mask part.from) }
-    ensures out_after { out.new ≡ front (joined_by (at gains.now) need bands (more + 1) part.mask part.from) out.old }
-{
-    if more == 0 {
-        return put_last(part, gains, bands, need, out);
-    }
-    if more == 1 {
-        return put_two(part, gains, bands, need, out);
-    }
-    put_three(part, gains, bands, need, out)
 }
 
 // Writes the listed sets to the front of `out`, in order, and counts them.
@@ -127,9 +102,8 @@ pub fn fill(gains: &[u32; 16], bands: usize, need: u32, out: &mut [u16]) -> usiz
         least: 10000,
         from: 0,
     };
-    let mut count = 0;
-    for more in 0..3 {
-        count += put_sets(more, none, gains, bands, need, &mut out[count..]);
-    }
+    let mut count = One::put(none, gains, bands, need, out);
+    count += Two::put(none, gains, bands, need, &mut out[count..]);
+    count += Three::put(none, gains, bands, need, &mut out[count..]);
     count
 }

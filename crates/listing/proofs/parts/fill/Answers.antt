@@ -1,50 +1,57 @@
--- `listing::parts::fill` meets its contract. The invariant: the listed sets of at most `more` bands are written; those of one band
--- more are the next piece of the list. Assumes nothing.
-use mathlib.Core.List.{List}
-use mathlib.Core.Path.{subst}
-use Prim.Native.Nat.{ℕ, ◌+◌}
+-- `listing::parts::fill` meets its contract: the listed sets of one band, of two and of three are the pieces of the list. Assumes
+-- nothing.
+use mathlib.Core.Path.{refl, sym, ap}
+use mathlib.Core.List.{List, [], append-nil}
+use Prim.Native.Nat.{ℕ, ◌≤◌}
 use native.Mathlib.Omega.{arith}
-use Rattle.laws.proofs.Fronts.{Writing, none_written, Turn, turn, ended}
+use lib.ListN.{length, length-append}
+use Rattle.laws.proofs.Fronts.{Writing, Turn, turn, ended}
 use Rattle.curve.specs.Levels.{at}
 use Rattle.sets.specs.Gains.{by_gains, joined_by}
-use Rattle.sets.proofs.Joining.{no_part, larger, larger-all, larger-step, larger-end}
+use Rattle.sets.proofs.Joining.{no_part, by-size}
 use Rattle.listing.proofs.parts.fill.Goals as goal
-use Rattle.listing.proofs.parts.fill.Goals.{In-loop-more}
+use Rattle.listing.proofs.parts.fill.Goals.{After-put-count}
 
--- the whole list, its sets of more than n bands, and those of one band more, which are the next piece
-abbrev whole : In-loop-more → List ℕ
-whole c = by_gains (at c.args.gains.now) c.args.need c.args.bands
+pub put-count-requires : goal.put-count-requires
+put-count-requires c =
+    let e = ap length (by-size (at c.args.gains.now) c.args.need c.args.bands) in record {
+      part_of = no_part _;
+      bounded = c.requires.bounded;
+      room = omega (arith, c.requires.room, simp length-append at e);
+    }
 
-abbrev after : In-loop-more → ℕ → List ℕ
-after c n = larger (at c.args.gains.now) c.args.need c.args.bands n
-
-abbrev piece : In-loop-more → List ℕ
-piece c = joined_by (at c.args.gains.now) c.args.need c.args.bands (c.loop-more.more + 1) 0 0
-
-turned : (c : In-loop-more) → let l = c.loop-more in Turn (whole c) (piece c) (after c (l.more + 1)) c.args.out.now l.count l.out
-turned c =
-    turn _ _ _ _ _ c.requires.room c.loop-more.invariant (piece c) (after c (c.loop-more.more + 1)) (larger-step _ _ _ _ (omega arith))
-
-pub loop-more-init : goal.loop-more-init
-loop-more-init c =
+-- the pairs are written behind the single bands
+pairs : (c : After-put-count)
+    → let a = c.args in
+    let sized : ℕ → List ℕ = λ more. joined_by (at a.gains.now) a.need a.bands more 0 0 in
+    Turn (by_gains (at a.gains.now) a.need a.bands) (sized 2) (sized 3) a.out.now c.put-count.result c.put-count.new.out
+pairs c =
     let a = c.args in
-    let all : List ℕ = by_gains (at a.gains.now) a.need a.bands in
-    subst (λ (r : List ℕ). Writing all r a.out.now 0 a.out.now) (larger-all (at a.gains.now) a.need a.bands) (none_written all a.out.now)
+    let e = by-size (at a.gains.now) a.need a.bands in
+    let r = c.put-count.ensures in
+    turn _ _ _ _ _ c.requires.room (record { done = _; parted = sym e; counted = r.value; written = r.out_after }) _ _ refl
 
-pub put_sets-count-requires : goal.put_sets-count-requires
-put_sets-count-requires c = record {
-  more_bound = omega arith;
-  part_of = no_part _;
-  bounded = c.requires.bounded;
-  room = (turned (goal.at.put_sets-count-requires c).In-loop-more).lent;
-}
+-- what is still to come is the last piece
+last : {whole piece l out : List ℕ} {count : ℕ} → length whole ≤ length l → Writing whole piece l count out → Turn whole piece [] l count out
+last room w = turn _ _ _ _ _ room w _ [] (sym (append-nil _))
 
-pub loop-more-preserved : goal.loop-more-preserved
-loop-more-preserved c =
-    let r = c.put_sets-count in
-    (turned (goal.at.loop-more-preserved c).In-loop-more).written r.result _ r.ensures.value r.ensures.out_after
+pub put-count-requires-2 : goal.put-count-requires-2
+put-count-requires-2 c =
+    let t = pairs (goal.at.put-count-requires-2 c).After-put-count in
+    record { part_of = no_part _; bounded = c.requires.bounded; room = t.lent }
+
+pub put-count-requires-3 : goal.put-count-requires-3
+put-count-requires-3 c =
+    let r = c.put-count-2 in
+    let t = pairs (goal.at.put-count-requires-3 c).After-put-count in
+    let u = last c.requires.room (t.written r.result _ r.ensures.value r.ensures.out_after) in
+    record { part_of = no_part _; bounded = c.requires.bounded; room = u.lent }
 
 pub returns : goal.returns
 returns c =
-    let a = ended _ _ _ _ _ c.requires.room c.loop-more.invariant (larger-end _ _ _ _ c.loop-more-test.false) in
+    let r = c.put-count-2 in
+    let s = c.put-count-3 in
+    let t = pairs (goal.at.returns c).After-put-count in
+    let u = last c.requires.room (t.written r.result _ r.ensures.value r.ensures.out_after) in
+    let a = ended _ _ _ _ _ c.requires.room (u.written s.result _ s.ensures.value s.ensures.out_after) refl in
     record { value = a.0; out_after = a.1 }
