@@ -1,4 +1,3 @@
 -- Laws of rooms.
 pub mod Rules
-pub mod Differences
 pub mod Meaning

@@ -1,109 +1,96 @@
--- The background rules by counted levels: with t and b the total and the background counted from one floor, d is t less b, so
--- each way out of the code is the case of the rule with that d. Assumes nothing.
-use mathlib.Core.Path.{◌≡◌, refl, sym, ◌∙◌, ap}
+-- Levels as numbers of 32 bits: they are small, and so are their differences and what a time adds, so that each fits and is read
+-- back as it is. Assumes nothing.
+use mathlib.Core.Path.{◌≡◌, ◌∙◌, ap, ap₂}
 use mathlib.Core.Bool.{Bool, true, false, cond}
-use Prim.Native.Nat.{ℕ, ◌+◌, ◌-◌, ◌≤◌, ◌<◌}
+use Prim.Native.Nat.{ℕ, ◌+◌, ◌≤◌, ◌<◌}
 use native.Mathlib.Omega.{arith}
-use lib.IntN.{ℤ, pos, ◌-ℤ◌}
+use lib.IntN.{ℤ, pos, ◌+ℤ◌, ◌-ℤ◌}
 use lib.Signed.{le_z, lt_z}
+use mir.Syntax.{w32}
+use mir.Val.{to_z, of_z, SFits}
 use Rattle.laws.specs.Parts.{P, N}
+use Rattle.laws.specs.Extremes.{greatest}
 use Rattle.laws.proofs.Extremes.{greatest-below}
-use Rattle.laws.proofs.Ints.{minus, apart, eq-made, le-true, le-false, lt-true, lt-false}
-use Rattle.quantity.specs.Quantities.{in_range, tenths}
-use Rattle.quantity.proofs.Rim.{range-read}
-use Rattle.quantity.specs.declared.refusals.Refusal.TheVariants.{BandRange, BackgroundTooNear}
-use Rattle.energy.specs.Corrections.{c, background_rule}
-use Rattle.laws.proofs.Counted.{Up}
-use Rattle.rooms.specs.Background.{above, ranged, field_level, field_mark, laboratory_level}
-use Rattle.std.specs.Prelude.{Result, Ok, Err}
-use Rattle.quantity.specs.declared.refusals.Refusal.{Refusal}
-use Rattle.intake.specs.declared.singles.Taken.{Taken}
+use Rattle.laws.proofs.Ints.{plus, minus, apart, eq-read, fits-made}
+use Rattle.quantity.specs.Quantities.{in_range}
+use Rattle.quantity.proofs.Rim.{range-read, as-pos}
+use Rattle.quantity.proofs.Counts.{near}
+use Rattle.energy.specs.Corrections.{c, k, background_rule, time_rule}
+use Rattle.rooms.specs.Background.{above, field_level}
 
-pub c-small : (d : ℕ) → c d < 16
+-- ---- numbers of at most n in size
+pub record Within (n : ℕ) (z : ℤ) : Type 0 where
+  pub high : P z ≤ n
+  pub low : N z ≤ n
+
+pub less_within : (m n : ℕ) (x y : ℤ) → Within m x → Within n y → Within (m + n) (x -ℤ y)
+less_within m n x y a b = record {
+  high = omega (arith, minus x y, apart (x -ℤ y));
+  low = omega (arith, minus x y, apart (x -ℤ y));
+}
+
+plus_within : (m n : ℕ) (x y : ℤ) → Within m x → Within n y → Within (m + n) (x +ℤ y)
+plus_within m n x y a b = record {
+  high = omega (arith, plus x y, apart (x +ℤ y));
+  low = omega (arith, plus x y, apart (x +ℤ y));
+}
+
+-- what is computed as z and is w fits, and is read back as w
+pub record Step (z w : ℤ) : Type 0 where
+  pub fits : SFits w32 z
+  pub value : to_z w32 (of_z w32 z) ≡ w
+
+pub step : (z w : ℤ) → z ≡ w → Within 100000 w → Step z w
+step z w e s = rw e (record { fits = fits-made (omega arith) (omega arith); value = near w (omega arith) (omega arith) })
+
+module _ (m n : ℕ) (u v x y : ℤ) (h : m + n ≤ 100000) (a : u ≡ x) (b : v ≡ y) (s : Within m x) (t : Within n y) where
+  pub less_step : Step (u -ℤ v) (x -ℤ y)
+  less_step = let w = less_within m n x y s t in step _ _ (ap₂ ◌-ℤ◌ a b) (record { high = omega arith; low = omega arith })
+
+  pub plus_step : Step (u +ℤ v) (x +ℤ y)
+  plus_step = let w = plus_within m n x y s t in step _ _ (ap₂ ◌+ℤ◌ a b) (record { high = omega arith; low = omega arith })
+
+-- ---- levels, and what a correction and a time add
+pub ranged_within : (x : ℤ) → in_range x ≡ true → Within 1500 x
+ranged_within x r = let b = range-read x r in record { high = omega arith; low = omega arith }
+
+pub held : (x : ℤ) → Within 1500 x → to_z w32 (of_z w32 x) ≡ x
+held x s = near x (omega arith) (omega arith)
+
+pub c_small : (d : ℕ) → c d < 16
 unfolding c
-c-small d = greatest-below 4 (background_rule d)
+c_small d = greatest-below 4 (background_rule d)
 
-module _ (total background : ℤ) (t b : ℕ) (u : Up 200 total t) (w : Up 200 background b) where
-  abbrev d : ℤ
-  d = above total background
+pub k_within : (t : ℕ) → Within 256 (k t)
+unfolding k
+k_within t =
+    let g : ℕ = greatest 8 (time_rule t) in record {
+      high = omega (arith, minus (pos g) (pos 70), apart (pos g -ℤ pos 70), greatest-below 8 (time_rule t));
+      low = omega (arith, minus (pos g) (pos 70), apart (pos g -ℤ pos 70));
+    }
 
-  -- d against a bound, by the counts
-  at_most : (n : ℕ) → t ≤ b + n → le_z d (pos n) ≡ true
-  at_most n h = le-true d (pos n) (omega (arith, minus total background))
-
-  over : (n : ℕ) → b + n < t → le_z d (pos n) ≡ false
-  over n h = le-false d (pos n) (omega (arith, minus total background))
-
-  below : (n : ℕ) → t < b + n → lt_z d (pos n) ≡ true
-  below n h = lt-true d (pos n) (omega (arith, minus total background))
-
-  from : (n : ℕ) → b + n ≤ t → lt_z d (pos n) ≡ false
-  from n h = lt-false d (pos n) (omega (arith, minus total background))
-
-  -- the level with r taken off
-  off : (r k : ℕ) → k ≡ 200 + r → pos t -ℤ pos k ≡ total -ℤ pos r
-  off r k e = eq-made (omega (arith, minus (pos t) (pos k), minus total (pos r)))
-
-  amount : (r : ℕ) → b ≤ t → r ≡ c (t - b) → r ≡ c (P d)
-  amount r h e = let z : t - b ≡ P d = omega (arith, minus total background, apart (total -ℤ background)) in e ∙ ap c z
-
-  corrected : (r : ℕ) → b ≤ t → r ≡ c (t - b) → pos t -ℤ pos (200 + r) ≡ total -ℤ pos (c (P d))
-  corrected r h e = off r (200 + r) refl ∙ ap (λ (n : ℕ). total -ℤ pos n) (amount r h e)
-
-  -- ---- the field rule
-  pub field-limit : t ≤ b + 60 → (pos t -ℤ pos 213 ≡ field_level total background) × (true ≡ field_mark total background)
-  unfolding field_level field_mark
-  field-limit h = (rw (at_most 60 h) (off 13 213 refl), sym (at_most 60 h))
-
-  pub field-between : (r : ℕ) → b + 60 < t → t < b + 100 → r ≡ c (t - b)
-      → (pos t -ℤ pos (200 + r) ≡ field_level total background) × (false ≡ field_mark total background)
-  unfolding field_level field_mark
-  field-between r h k e = (rw (over 60 h, below 100 k) (corrected r (omega arith) e), sym (over 60 h))
-
-  pub field-clear : b + 100 ≤ t → (total ≡ field_level total background) × (false ≡ field_mark total background)
-  unfolding field_level field_mark
-  field-clear h = (rw (over 60 (omega arith), from 100 h) refl, sym (over 60 (omega arith)))
-
-  -- ---- the laboratory rule
-  pub laboratory-refused : t < b + 60 → Err BackgroundTooNear ≡ laboratory_level total background
-  unfolding laboratory_level
-  laboratory-refused h = rw (below 60 h) refl
-
-  pub laboratory-between : (r : ℕ) → b + 60 ≤ t → t < b + 150 → r ≡ c (t - b) → (z : ℤ) → z ≡ pos t -ℤ pos (200 + r)
-      → Ok (tenths z) false ≡ laboratory_level total background
-  unfolding laboratory_level
-  laboratory-between r h k e z f =
-      rw (from 60 h, below 150 k) (ap (λ (y : ℤ). Ok (tenths y) false) (f ∙ corrected r (omega arith) e))
-
-  pub laboratory-clear : b + 150 ≤ t → Ok (tenths total) false ≡ laboratory_level total background
-  unfolding laboratory_level
-  laboratory-clear h = rw (from 60 (omega arith), from 150 h) refl
+-- k as it is computed, from r that is counted from -70
+pub k_step : (r t : ℕ) → pos r -ℤ pos 70 ≡ k t → (r < 1000) × Step (to_z w32 r -ℤ pos 70) (k t)
+k_step r t e =
+    let w = k_within t in
+    let small : r < 1000 = omega (arith, eq-read e, minus (pos r) (pos 70)) in
+    (small, step _ _ (ap (λ (z : ℤ). z -ℤ pos 70) (as-pos r (omega arith)) ∙ e) (record { high = omega arith; low = omega arith }))
 
 -- a corrected level is at most its total, and at most 1.5 dB below it
-pub field-range : (total background : ℤ) → in_range total ≡ true → (N (field_level total background) ≤ 300) × (P (field_level total background) ≤ 1500)
+pub field_within : (total background : ℤ) → in_range total ≡ true → Within 1500 (field_level total background)
 unfolding field_level
-field-range total background r =
-    let h = range-read total r in
-    go (le_z (above total background) (pos 60)) (lt_z (above total background) (pos 100)) h.0 h.1
+field_within total background r = go (le_z (above total background) (pos 60)) (lt_z (above total background) (pos 100)) (range-read total r)
   where
     n : ℕ
     n = c (P (above total background))
 
-    less : (k : ℕ) → k < 100 → N total ≤ 200 → P total ≤ 1500 → (N (total -ℤ pos k) ≤ 300) × (P (total -ℤ pos k) ≤ 1500)
-    less k l a b = (omega (arith, minus total (pos k), apart (total -ℤ pos k), apart total), omega (arith, minus total (pos k), apart (total -ℤ pos k), apart total))
+    less : (k : ℕ) → k < 16 → (N total ≤ 200) × (P total ≤ 1500) → Within 1500 (total -ℤ pos k)
+    less k l b = record {
+      high = omega (arith, minus total (pos k), apart (total -ℤ pos k), apart total);
+      low = omega (arith, minus total (pos k), apart (total -ℤ pos k), apart total);
+    }
 
-    go : (a b : Bool) → N total ≤ 200 → P total ≤ 1500
-        → (N (cond a (total -ℤ pos 13) (cond b (total -ℤ pos n) total)) ≤ 300) × (P (cond a (total -ℤ pos 13) (cond b (total -ℤ pos n) total)) ≤ 1500)
-    go true b h k = less 13 (omega arith) h k
-    go false true h k = less n (omega (arith, c-small (P (above total background)))) h k
-    go false false h k = (omega arith, k)
-
--- ---- the calls: "tests total, then background (4)"
-pub no-total : (x y : ℤ) (t : Result Taken Refusal) → in_range x ≡ false → Err BandRange ≡ ranged (in_range x) (ranged (in_range y) t)
-no-total x y t e = rw e refl
-
-pub no-background : (x y : ℤ) (t : Result Taken Refusal) → in_range x ≡ true → in_range y ≡ false → Err BandRange ≡ ranged (in_range x) (ranged (in_range y) t)
-no-background x y t e f = rw (e, f) refl
-
-pub both-in : (x y : ℤ) (t : Result Taken Refusal) → in_range x ≡ true → in_range y ≡ true → t ≡ ranged (in_range x) (ranged (in_range y) t)
-both-in x y t e f = rw (e, f) refl
+    go : (a b : Bool) → (N total ≤ 200) × (P total ≤ 1500) → Within 1500 (cond a (total -ℤ pos 13) (cond b (total -ℤ pos n) total))
+    go true b h = less 13 (omega arith) h
+    go false true h = less n (c_small (P (above total background))) h
+    go false false h = record { high = omega arith; low = omega arith }

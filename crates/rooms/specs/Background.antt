@@ -42,3 +42,7 @@ laboratory_level total background =
 
 unfoldable pub laboratory_of : ℤ → ℤ → Result Taken Refusal
 laboratory_of total background = ranged (in_range total) (ranged (in_range background) (laboratory_level total background))
+
+-- ---- between the definition and the code: c(d) is taken off below `clear`, and from there on there is no change
+abbrev pub lessened : ℤ → ℤ → ℤ → ℤ
+lessened total d clear = cond (lt_z d clear) (total -ℤ pos (c (P d))) total

@@ -8,7 +8,6 @@ ghost use Rattle.rooms.specs.Raw.{raw_of, derived, difference};
 use crate::background::in_field;
 use energy::reverberation;
 use intake::{Taken, take_float, take_time};
-use quantity::signed::{above, less};
 use quantity::{Hundredths, Refusal, Tenths};
 
 // What a raw band holds: three levels in decibels and the reverberation time in seconds, as the analyser gives them.
@@ -21,17 +20,20 @@ pub struct RawBand {
 }
 
 // The difference of levels that are in range, with its mark, or 6.
-fn differed(source: Tenths, receiving: Tenths, background: Tenths, time: Hundredths) -> Result<Taken, Refusal>
+fn differed(
+    source: Tenths,
+    receiving: Tenths,
+    background: Tenths,
+    time: Hundredths,
+) -> Result<Taken, Refusal>
     requires levels_ranged { (in_range source.0 ≡ true) × (in_range receiving.0 ≡ true) × (in_range background.0 ≡ true) }
     requires time_bound { (10 ≤ time.0) × (time.0 ≤ 2000) }
     ensures { result ≡ derived (difference source.0 receiving.0 background.0 (k time.0)) (field_mark receiving.0 background.0) }
 {
     let corrected = in_field(receiving, background);
-    // levels are counted from -30.0 dB, which no corrected level is below, and k from -70
-    let value = Tenths(less(
-        above(source.0, 300) + reverberation(time.0),
-        above(corrected.value.0, 300) + 70,
-    ));
+    // the time's step is counted from -70
+    let step = reverberation(time.0) as i32 - 70;
+    let value = Tenths(source.0 - corrected.value.0 + step);
     if value.in_range() {
         Ok(Taken {
             value,
@@ -43,6 +45,7 @@ fn differed(source: Tenths, receiving: Tenths, background: Tenths, time: Hundred
 }
 
 // The standardized difference of a raw band: its four floats are tested in order (2, then 4 or 7), then 6.
+#[tactic(auto, unfolding(crate::specs::Raw::raw_of))]
 pub fn standardized(raw: RawBand) -> Result<Taken, Refusal>
     ensures { result ≡ raw_of raw }
 {
