@@ -13,34 +13,18 @@ use rating::Sheet;
 fn decimal_len(n: u32) -> usize
     ensures { (result ≡ length (decimal n)) × (result ≤ 10) }
 {
-    if n < 10 {
-        return 1;
+    match n {
+        0..10 => 1,
+        10..100 => 2,
+        100..1000 => 3,
+        1000..10000 => 4,
+        10000..100000 => 5,
+        100000..1000000 => 6,
+        1000000..10000000 => 7,
+        10000000..100000000 => 8,
+        100000000..1000000000 => 9,
+        _ => 10,
     }
-    if n < 100 {
-        return 2;
-    }
-    if n < 1000 {
-        return 3;
-    }
-    if n < 10000 {
-        return 4;
-    }
-    if n < 100000 {
-        return 5;
-    }
-    if n < 1000000 {
-        return 6;
-    }
-    if n < 10000000 {
-        return 7;
-    }
-    if n < 100000000 {
-        return 8;
-    }
-    if n < 1000000000 {
-        return 9;
-    }
-    10
 }
 
 // What a number is below 0.
@@ -126,9 +110,7 @@ fn put_key(s: &[u8], key: usize, len: usize, out: &mut [u8])
     requires out_in_bounds { len ≤ length out.old }
     ensures { out.new ≡ front (take len (drop key s.now)) out.old }
 {
-    for i in 0..len {
-        out[i] = s[key + i];
-    }
+    out[..len].copy_from_slice(&s[key..key + len]);
 }
 
 // Kind and key.
@@ -174,19 +156,14 @@ fn fields_of(rated: Result<Sheet, Refusal>) -> [Field; 6]
     ensures { (texts_of result ≡ fields_of rated) × (length result ≡ 6) }
 {
     match rated {
-        Ok(sheet) => {
-            let rating = sheet.rating;
-            let first = sheet.first;
-            let second = sheet.second;
-            [
-                Field::Sign(b'0'),
-                Field::Number(rating.0),
-                Field::Number(first.0),
-                term_field(second),
-                Field::Count(sheet.shifts),
-                Field::Sign(mark(sheet.limit)),
-            ]
-        }
+        Ok(sheet) => [
+            Field::Sign(b'0'),
+            Field::Number(sheet.rating.0),
+            Field::Number(sheet.first.0),
+            term_field(sheet.second),
+            Field::Count(sheet.shifts),
+            Field::Sign(mark(sheet.limit)),
+        ],
         Err(refusal) => [
             Field::Count(refusal.number()),
             Field::Nothing,
@@ -222,10 +199,8 @@ pub fn put_rated(rated: Result<Sheet, Refusal>, out: &mut [u8])
     requires { length (others (fields_of rated)) ≤ length out.old }
     ensures { out.new ≡ front (others (fields_of rated)) out.old }
 {
-    let fields = fields_of(rated);
     let mut at = 0;
-    for i in 0..6 {
-        let field = fields[i];
+    for field in fields_of(rated) {
         at += put_field(field, &mut out[at..]);
     }
     out[at] = b'\n';
@@ -244,10 +219,7 @@ fn term_len(term: Option<Decibels>) -> usize
 fn sheet_len(sheet: Sheet) -> usize
     ensures { (result ≡ length (others (sheet_fields sheet))) × (result ≤ 64) }
 {
-    let rating = sheet.rating;
-    let first = sheet.first;
-    let second = sheet.second;
-    let terms = number_len(rating.0) + number_len(first.0) + term_len(second);
+    let terms = number_len(sheet.rating.0) + number_len(sheet.first.0) + term_len(sheet.second);
     9 + terms + decimal_len(sheet.shifts)
 }
 

@@ -18,7 +18,7 @@ use Rattle.request.specs.Texts.BandOk.{gone, given}
 use Rattle.request.specs.Reading.{digit_of, digit_at, tenth_at, third_at, second_at, first_at, figure_at, Found, signed_by, level_at, band_at}
 use Rattle.request.specs.Reading.Found.{found}
 use Rattle.request.proofs.Leaves.{inside, digit-read, digit-made}
-use Rattle.request.proofs.Readers.{tenth-got, third-point, second-point, second_more, first-point, first_more, figure-some, figure-none}
+use Rattle.request.proofs.Readers.{tenth-got, third-point, second-point, second_more, first-point, first_more, figure-some, figure-none, read}
 use Rattle.answer.proofs.Decimals.{decimal-one, decimal_step}
 use Rattle.request.proofs.Stands.{Stands, Stood, one_more, joined, move}
 use Rattle.laws.proofs.Fronts.{snoc-length}
@@ -46,7 +46,7 @@ pub record FigureAt (s : List ℕ) (at m next : ℕ) : Type 0 where
   pub small : m ≤ 9999
 
 abbrev pub FigureOk : List ℕ → ℕ → Option Figure → Type 0
-FigureOk s at (Some m next) = FigureAt s at m next
+FigureOk s at (Some f) = FigureAt s at f.tenths f.next
 FigureOk s at None = Unit {0}
 
 if_ok : (s : List ℕ) (at : ℕ) (t : Bool) (a b : Option Figure) → (t ≡ true → FigureOk s at a) → (t ≡ false → FigureOk s at b) → FigureOk s at (cond t a b)
@@ -62,7 +62,7 @@ module _ (s : List ℕ) (start : ℕ) where
       → FigureOk s start (tenth_at s at whole)
   unfolding tenth_at
   tenth-ok at whole h k e =
-      if_ok s start (ltb (digit_at s at) 10) (Some (10 * whole + digit_at s at) (at + 1)) None
+      if_ok s start (ltb (digit_at s at) 10) (read (10 * whole + digit_at s at) (at + 1)) None
       (λ t. got (ltb-true (digit_at s at) 10 t)) (λ t. tt)
     where
       got : digit_at s at < 10 → FigureAt s start (10 * whole + digit_at s at) (at + 1)
@@ -110,7 +110,7 @@ module _ (s : List ℕ) (start : ℕ) where
   first-ok : (at whole : ℕ) → whole < 10 → Stands s start (decimal whole) → at ≡ start + length (decimal whole) → FigureOk s start (first_at s at whole)
   unfolding first_at
   first-ok at whole h k e =
-      let rest : (Option Figure) = cond (ltb (digit_at s at) 10) (second_at s (at + 1) (10 * whole + digit_at s at)) None in
+      let rest : Option Figure = cond (ltb (digit_at s at) 10) (second_at s (at + 1) (10 * whole + digit_at s at)) None in
       if_ok s start (eqb (byte_at s at) 46) (tenth_at s (at + 1) whole) (cond (eqb whole 0) None rest)
       (λ t. point-ok at whole (omega arith) k e (eqb-true (byte_at s at) 46 t))
       (λ t. if_ok s start (eqb whole 0) None rest (λ z. tt)
@@ -144,18 +144,18 @@ here-at s i j b e h = subst (λ (k : ℕ). Stood s k b) e h
 
 module _ (s : List ℕ) (at b : ℕ) (hb : b < 10) where
   -- the point and the digit after it
-  tail-here : (i j whole : ℕ) → i ≡ at → j ≡ at + 1 → Stood s j (48 + b) → tenth_at s (at + 1) whole ≡ Some (10 * whole + b) (at + 1 + 1)
+  tail-here : (i j whole : ℕ) → i ≡ at → j ≡ at + 1 → Stood s j (48 + b) → tenth_at s (at + 1) whole ≡ read (10 * whole + b) (at + 1 + 1)
   tail-here i j whole e f st = sym (tenth-got s (at + 1) whole b (digit-here s (at + 1) b hb (here-at s j (at + 1) (48 + b) f st)) hb)
 
 figure-one : (s : List ℕ) (at a b : ℕ) → a < 10 → b < 10 → Stands s at ((48 + a) ∷ 46 ∷ (48 + b) ∷ [])
-    → figure_at s at ≡ Some (10 * a + b) (at + 1 + 1 + 1)
+    → figure_at s at ≡ read (10 * a + b) (at + 1 + 1 + 1)
 figure-one s at a b ha hb h =
     sym (figure-some s at a (digit-here s at a ha h.0) ha)
     ∙ sym (first-point s (at + 1) a 46 (sym (here-at s (suc at) (at + 1) 46 (next_one at) h.1.0).is) refl)
     ∙ tail-here s (at + 1) b hb (at + 1) (suc (suc at)) a refl (omega arith) h.1.1.0
 
 figure-two : (s : List ℕ) (at a a2 b : ℕ) → 0 < a → a < 10 → a2 < 10 → b < 10 → Stands s at ((48 + a) ∷ (48 + a2) ∷ 46 ∷ (48 + b) ∷ [])
-    → figure_at s at ≡ Some (10 * (10 * a + a2) + b) (at + 1 + 1 + 1 + 1)
+    → figure_at s at ≡ read (10 * (10 * a + a2) + b) (at + 1 + 1 + 1 + 1)
 figure-two s at a a2 b z ha ha2 hb h =
     let st : Stood s (at + 1) (48 + a2) = here-at s (suc at) (at + 1) (48 + a2) (next_one at) h.1.0 in
     sym (figure-some s at a (digit-here s at a ha h.0) ha)
@@ -165,7 +165,7 @@ figure-two s at a a2 b z ha ha2 hb h =
 
 figure-three : (s : List ℕ) (at a a2 a3 b : ℕ) → 0 < a → a < 10 → a2 < 10 → a3 < 10 → b < 10
     → Stands s at ((48 + a) ∷ (48 + a2) ∷ (48 + a3) ∷ 46 ∷ (48 + b) ∷ [])
-    → figure_at s at ≡ Some (10 * (10 * (10 * a + a2) + a3) + b) (at + 1 + 1 + 1 + 1 + 1)
+    → figure_at s at ≡ read (10 * (10 * (10 * a + a2) + a3) + b) (at + 1 + 1 + 1 + 1 + 1)
 figure-three s at a a2 a3 b z ha ha2 ha3 hb h =
     let st : Stood s (at + 1) (48 + a2) = here-at s (suc at) (at + 1) (48 + a2) (next_one at) h.1.0 in
     let st3 : Stood s (at + 1 + 1) (48 + a3) = here-at s (suc (suc at)) (at + 1 + 1) (48 + a3) (omega arith) h.1.1.0 in
@@ -194,11 +194,11 @@ text-three a a2 a3 b z ha ha2 ha3 hb =
     ∙ ap (λ (l : List ℕ). (((l ++ ((48 + a2) ∷ [])) ++ ((48 + a3) ∷ [])) ++ (46 ∷ [])) ++ ((48 + b) ∷ [])) (decimal-one a ha)
 
 abbrev FigureHere : List ℕ → ℕ → ℕ → Type 0
-FigureHere s at m = Stands s at (figure_text m) → figure_at s at ≡ Some m (at + length (figure_text m))
+FigureHere s at m = Stands s at (figure_text m) → figure_at s at ≡ read m (at + length (figure_text m))
 
-by-text : (s : List ℕ) (at m n : ℕ) (t : List ℕ) → figure_text m ≡ t → n ≡ at + length t → (Stands s at t → figure_at s at ≡ Some m n) → FigureHere s at m
+by-text : (s : List ℕ) (at m n : ℕ) (t : List ℕ) → figure_text m ≡ t → n ≡ at + length t → (Stands s at t → figure_at s at ≡ read m n) → FigureHere s at m
 by-text s at m n t e l f h =
-    f (subst (λ (u : List ℕ). Stands s at u) e h) ∙ ap (λ (k : ℕ). Some m k) (l ∙ ap (λ (u : List ℕ). at + length u) (sym e))
+    f (subst (λ (u : List ℕ). Stands s at u) e h) ∙ ap (λ (k : ℕ). read m k) (l ∙ ap (λ (u : List ℕ). at + length u) (sym e))
 
 here-one : (s : List ℕ) (at a b : ℕ) → a < 10 → b < 10 → FigureHere s at (10 * a + b)
 here-one s at a b ha hb =
@@ -237,13 +237,13 @@ figure-here s at m h = go (ltb m 100) (ltb m 1000) refl refl
         whole m = omega arith
 
 -- a figure starts with a digit
-pub figure-digit : (s : List ℕ) (at m next : ℕ) → figure_at s at ≡ Some m next → digit_at s at < 10
+pub figure-digit : (s : List ℕ) (at m next : ℕ) → figure_at s at ≡ read m next → digit_at s at < 10
 figure-digit s at m next e = go (ltb (digit_at s at) 10) refl
   where
     go : (t : Bool) → ltb (digit_at s at) 10 ≡ t → digit_at s at < 10
     go true f = ltb-true (digit_at s at) 10 f
     go false f =
-        let k : ◌≡◌ {A = (Option Figure)} None (Some m next) = figure-none s at (digit_at s at) refl (ltb-false (digit_at s at) 10 f) ∙ e in
+        let k : ◌≡◌ {A = Option Figure} None (read m next) = figure-none s at (digit_at s at) refl (ltb-false (digit_at s at) 10 f) ∙ e in
         clash cc
 
 -- a band that was read stands there
@@ -272,19 +272,22 @@ module _ (s : List ℕ) (start at : ℕ) (limit : Bool) (mark : Stands s start (
 
   plus-ok : (f : Option Figure) → FigureOk s at f → FoundOk s start (signed_by limit false f)
   unfolding level_text
-  plus-ok (Some m next) h = level-made (pos m) next (given h.small (omega arith)) h.stands h.ends
+  plus-ok (Some f) h = level-made (pos f.tenths) f.next (given h.small (omega arith)) h.stands h.ends
   plus-ok None h = tt
 
   minus-ok : byte_at s at ≡ 45 → (f : Option Figure) → FigureOk s (at + 1) f → FoundOk s start (signed_by limit true f)
   unfolding level_text
-  minus-ok p (Some zero next) h = tt
-  minus-ok p (Some (suc m) next) h =
-      rw (eqb-suc-zero m)
-      (level-made (negsuc m) next (given (omega arith) h.small) (
-        record { within = inside s at (omega arith); is = p },
-        move s (figure_text (suc m)) (at + 1) (suc at) (omega arith) h.stands,
-      )
-      (omega (arith, h.ends)))
+  minus-ok p (Some f) h = go f.tenths f.next h
+    where
+      go : (m next : ℕ) → FigureAt s (at + 1) m next → FoundOk s start (signed_by limit true (read m next))
+      go zero next h = tt
+      go (suc m) next h =
+          rw (eqb-suc-zero m)
+          (level-made (negsuc m) next (given (omega arith) h.small) (
+            record { within = inside s at (omega arith); is = p },
+            move s (figure_text (suc m)) (at + 1) (suc at) (omega arith) h.stands,
+          )
+          (omega (arith, h.ends)))
   minus-ok p None h = tt
 
   level-ok : FoundOk s start (level_at s at limit)
@@ -315,11 +318,11 @@ level-here : (s : List ℕ) (at : ℕ) (limit : Bool) (z : ℤ) → BandOk (leve
     → level_at s at limit ≡ found (level limit z) (at + length (level_text z))
 unfolding level_at level_text
 level-here s at limit (pos m) (given p q) h =
-    let f : figure_at s at ≡ Some m (at + length (figure_text m)) = figure-here s at m p h in
+    let f : figure_at s at ≡ read m (at + length (figure_text m)) = figure-here s at m p h in
     let d : digit_at s at < 10 = figure-digit s at m (at + length (figure_text m)) f in
     rw (ne_eqb (byte_at s at) 45 (omega (arith, digit-read (byte_at s at) d))) (ap (signed_by limit false) f)
 level-here s at limit (negsuc m) (given p q) h =
-    let f : figure_at s (at + 1) ≡ Some (suc m) (at + 1 + length (figure_text (suc m))) =
+    let f : figure_at s (at + 1) ≡ read (suc m) (at + 1 + length (figure_text (suc m))) =
     figure-here s (at + 1) (suc m) q (move s (figure_text (suc m)) (suc at) (at + 1) (next_one at) h.1) in
     rw (eq-eqb (byte_at s at) 45 h.0.is)
     (ap (signed_by limit true) f

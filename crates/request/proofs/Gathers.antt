@@ -26,6 +26,7 @@ use Rattle.request.proofs.Readers.{bands-tab, bands-broken, bands-end, bands-non
 use Rattle.request.proofs.Exact.{band-ok, FoundOk}
 use Rattle.laws.proofs.Fronts.{snoc-length}
 use Rattle.std.specs.Prelude.{Option, Some, None}
+use Rattle.std.specs.Option.{option_or, is_some}
 
 -- one band more, at the end
 or-none : (o : Option Refusal) → or_else o None ≡ o
@@ -110,10 +111,10 @@ gather-start s start = record {
 }
 
 -- the field that the code reads, by what stands there
-pub no-next : (s : List ℕ) (at : ℕ) (f : Found) → FoundOk s (at + 1) f → (field_of f).next ≡ 0 → f ≡ Found.nothing
+no-field : (f : Found) → None ≡ field_of f → f ≡ Found.nothing
 unfolding field_of
-no-next s at Found.nothing h e = refl
-no-next s at (found b next) h e = absurd (omega (arith, h.ends))
+no-field Found.nothing e = refl
+no-field (found b next) e = cc
 
 pub record Met (f : Found) (r : Field) : Type 0 where
   pub band : Band
@@ -122,24 +123,26 @@ pub record Met (f : Found) (r : Field) : Type 0 where
   pub limit : r.limit ≡ mark_of band
   pub fault : r.fault ≡ fault_of band
 
-met : (f : Found) (r : Field) → r ≡ field_of f → (r.next ≡ 0 → ⊥) → Met f r
+met : (f : Found) (r : Field) → Some r ≡ field_of f → Met f r
 unfolding field_of
-met Found.nothing r e h = absurd (h (ap (λ (x : Field). x.next) e))
-met (found b next) r e h = record {
-  band = b;
-  is = ap (found b) (sym (ap (λ (x : Field). x.next) e));
-  value = ap (λ (x : Field). x.value) e;
-  limit = ap (λ (x : Field). x.limit) e;
-  fault = ap (λ (x : Field). x.fault) e;
-}
+met Found.nothing r e = cc
+met (found b next) r e =
+    let k : r ≡ record { next = next; value = value_of b; limit = mark_of b; fault = fault_of b } = cc in
+    record {
+      band = b;
+      is = ap (found b) (sym (ap (λ (x : Field). x.next) k));
+      value = ap (λ (x : Field). x.value) k;
+      limit = ap (λ (x : Field). x.limit) k;
+      fault = ap (λ (x : Field). x.fault) k;
+    }
 
-module _ {s : List ℕ} {start : ℕ} {values : List Tenths} {marks weight count : ℕ} {fault : (Option Refusal)} {at : ℕ} (g : Gathering s start values marks weight count fault at)
-    (r : Field) (tab : byte_at s at ≡ 9) (read : r ≡ field_of (band_at s (at + 1))) (some : r.next ≡ 0 → ⊥) where
+module _ {s : List ℕ} {start : ℕ} {values : List Tenths} {marks weight count : ℕ} {fault : Option Refusal} {at : ℕ} (g : Gathering s start values marks weight count fault at)
+    (r : Field) (tab : byte_at s at ≡ 9) (read : Some r ≡ field_of (band_at s (at + 1))) where
   here : at < length s
   here = inside s at (omega arith)
 
   found_here : Met (band_at s (at + 1)) r
-  found_here = met (band_at s (at + 1)) r read some
+  found_here = met (band_at s (at + 1)) r read
 
   stands_here : FoundOk s (at + 1) (found found_here.band r.next)
   stands_here = subst (FoundOk s (at + 1)) found_here.is (band-ok s (at + 1))
@@ -220,7 +223,7 @@ module _ {s : List ℕ} {start : ℕ} {values : List Tenths} {marks weight count
   turn_many h = turned values marks weight g.whole g.low g.high (λ few. absurd (omega (arith, all-length, g.count-is)))
 
 -- the ways out
-module _ {s : List ℕ} {start : ℕ} {values : List Tenths} {marks weight count : ℕ} {fault : (Option Refusal)} {at : ℕ} (g : Gathering s start values marks weight count fault at) where
+module _ {s : List ℕ} {start : ℕ} {values : List Tenths} {marks weight count : ℕ} {fault : Option Refusal} {at : ℕ} (g : Gathering s start values marks weight count fault at) where
   by-fuel : (x : Bands) → ((m : ℕ) → bands_from (suc m) s at g.bands ≡ x) → bands_from 0 s at g.bands ≡ x → bands_at s start ≡ x
   by-fuel x f z = g.same ∙ go g.fuel
     where
@@ -232,19 +235,18 @@ module _ {s : List ℕ} {start : ℕ} {values : List Tenths} {marks weight count
   unfolding bands_from
   zero-broken = refl
 
-  pub out-broken : (r : Field) (k : Gathered) → byte_at s at ≡ 9 → r ≡ field_of (band_at s (at + 1)) → r.next ≡ 0 → k.next ≡ 0 → GatheredAt (bands_at s start) k
-  out-broken r k e f z n =
-      subst (λ (b : Bands). GatheredAt b k)
-      (sym (by-fuel broken (λ m. bands-broken m s at g.bands e
-      (no-next s at (band_at s (at + 1)) (band-ok s (at + 1)) (sym (ap (λ (x : Field). x.next) f) ∙ z))) zero-broken)) n
+  pub out-broken : (r : Option Gathered) → r ≡ None → byte_at s at ≡ 9 → None ≡ field_of (band_at s (at + 1)) → GatheredAt (bands_at s start) r
+  out-broken r z e f =
+      subst (λ (b : Bands). GatheredAt b r)
+      (sym (by-fuel broken (λ m. bands-broken m s at g.bands e (no-field (band_at s (at + 1)) f)) zero-broken)) z
 
-  pub out_none : (k : Gathered) → (byte_at s at ≡ 9 → ⊥) → (byte_at s at ≡ 10 → ⊥) → k.next ≡ 0 → GatheredAt (bands_at s start) k
-  out_none k e f n = subst (λ (b : Bands). GatheredAt b k) (sym (by-fuel broken (λ m. bands-none m s at g.bands e f) zero-broken)) n
+  pub out_none : (byte_at s at ≡ 9 → ⊥) → (byte_at s at ≡ 10 → ⊥) → GatheredAt (bands_at s start) None
+  out_none e f = subst (λ (b : Bands). GatheredAt b None) (sym (by-fuel broken (λ m. bands-none m s at g.bands e f) zero-broken)) refl
 
   pub out-end : byte_at s at ≡ 10
-      → GatheredAt (bands_at s start) (record { next = at + 1; count = count; fault = fault; marks = marks; values = values })
+      → GatheredAt (bands_at s start) (Some (record { next = at + 1; count = count; fault = fault; marks = marks; values = values }))
   out-end e =
-      subst (λ (b : Bands). GatheredAt b (record { next = at + 1; count = count; fault = fault; marks = marks; values = values }))
+      subst (λ (b : Bands). GatheredAt b (Some (record { next = at + 1; count = count; fault = fault; marks = marks; values = values })))
       (sym (go g.fuel refl)) (
         refl,
         record {
@@ -260,8 +262,8 @@ module _ {s : List ℕ} {start : ℕ} {values : List Tenths} {marks weight count
       go (suc m) f = g.same ∙ ap (λ (k : ℕ). bands_from k s at g.bands) f ∙ bands-end m s at g.bands e
 
 -- where the two ways of a turn meet
-module _ {s : List ℕ} {start : ℕ} {values : List Tenths} {marks weight count : ℕ} {fault : (Option Refusal)} {at : ℕ} (g : Gathering s start values marks weight count fault at)
-    (r : Field) (tab : byte_at s at ≡ 9) (read : r ≡ field_of (band_at s (at + 1))) (some : r.next ≡ 0 → ⊥)
+module _ {s : List ℕ} {start : ℕ} {values : List Tenths} {marks weight count : ℕ} {fault : Option Refusal} {at : ℕ} (g : Gathering s start values marks weight count fault at)
+    (r : Field) (tab : byte_at s at ≡ 9) (read : Some r ≡ field_of (band_at s (at + 1)))
     (values' : List Tenths) (marks' weight' : ℕ) (fault' : Option Refusal) (first : fault' ≡ or_else fault r.fault) where
   moved : (v : List Tenths) (m w : ℕ) → values' ≡ v → marks' ≡ m → weight' ≡ w
       → Gathering s start v m w (count + 1) (or_else fault r.fault) r.next → Gathering s start values' marks' weight' (count + 1) fault' r.next
@@ -274,14 +276,16 @@ module _ {s : List ℕ} {start : ℕ} {values : List Tenths} {marks weight count
   pub again-few : (w : ℕ) → w ≡ weight_by r.limit weight → count < 16 → values' ≡ set values count r.value → marks' ≡ marks + w → weight' ≡ weight + weight
       → Gathering s start values' marks' weight' (count + 1) fault' r.next
   again-few w e h a b c =
-      moved (set values count r.value) (marks + w) (weight + weight) a b c (turn-few g r tab read some w e h)
+      moved (set values count r.value) (marks + w) (weight + weight) a b c (turn-few g r tab read w e h)
 
   pub again-many : 16 ≤ count → values' ≡ values → marks' ≡ marks → weight' ≡ weight → Gathering s start values' marks' weight' (count + 1) fault' r.next
-  again-many h a b c = moved values marks weight a b c (turn_many g r tab read some h)
+  again-many h a b c = moved values marks weight a b c (turn_many g r tab read h)
 
 -- the refusal of a band is put after the one that stands, if it gives any
-pub or-refused : (o p : Option Refusal) (r : Refusal) → p ≡ Some r → or_else o (Some r) ≡ or_else o p
-or-refused o p r e = ap (or_else o) (sym e)
+pub or-given : (o p : Option Refusal) → option_or o p ≡ or_else o p
+or-given None p = refl
+or-given (Some r) p = refl
 
-pub or-accepted : (o p : Option Refusal) → p ≡ None → o ≡ or_else o p
-or-accepted o p e = sym (ap (or_else o) e ∙ or-none o)
+pub or-kept : (o p : Option Refusal) → false ≡ is_some p → o ≡ or_else o p
+or-kept o None e = sym (or-none o)
+or-kept o (Some r) e = cc

@@ -23,6 +23,16 @@ pub digit_low : (b : ℕ) → b < 48 → 10 ≡ digit_of b
 unfolding digit_of
 digit_low b h = simp (lt-leb 48 b h)
 
+pub digit-high : (b : ℕ) → 57 < b → 10 ≡ digit_of b
+unfolding digit_of
+digit-high b h = simp (le-leb 48 b (omega arith), lt-leb b 57 h)
+
+pub digit-small : (b : ℕ) → 48 ≤ b → b ≤ 57 → digit_of b < 10
+digit-small b h k = omega (arith, digit-yes b h k)
+
+-- what a byte is as a digit, by where it stands
+pub ruleset digits = (digit-yes, digit-small, digit_low, digit-high)
+
 -- the test of a digit
 pub digit-between : (b : ℕ) → between 48 57 b ≡ true → (48 ≤ b) × (b ≤ 57)
 digit-between b e = go (leb 48 b) (leb b 57) refl refl e
@@ -31,10 +41,6 @@ digit-between b e = go (leb 48 b) (leb b 57) refl refl e
     go true true p q e = (leb-true 48 b p, leb-true b 57 q)
     go true false p q e = absurd (subst T (sym e) tt)
     go false y p q e = absurd (subst T (sym e) tt)
-
-pub digit-beside : (b : ℕ) → between 48 57 b ≡ false → 10 ≡ digit_of b
-unfolding digit_of
-digit-beside b e = rw e
 
 -- what the value of a digit says of its byte
 pub record Digit (b : ℕ) : Type 0 where
@@ -58,6 +64,3 @@ digit-made d h = sym (digit-yes (48 + d) (omega arith) (omega arith)) ∙ omega 
 
 pub inside-byte : (s : List ℕ) (at b : ℕ) → b ≡ byte_at s at → 0 < b → at < length s
 inside-byte s at b e h = inside s at (omega arith)
-
-pub inside-digit : (s : List ℕ) (at b d : ℕ) → b ≡ byte_at s at → d ≡ digit_of b → d < 10 → at < length s
-inside-digit s at b d e f h = inside-byte s at b e (omega (arith, digit-read b (omega arith)))

@@ -1,11 +1,10 @@
 // Bands: one field, and all of a line.
 ghost use Rattle.std.specs.Prelude.{◌≡◌, ◌+◌, ◌≤◌, ◌<◌, length};
-ghost use Rattle.quantity.specs.Refusals.{or_else};
 ghost use Rattle.request.specs.Texts.{Band};
 ghost use Rattle.request.specs.Reading.{figure_at, first_at, second_at, third_at, tenth_by, tenth_at, signed_by, level_at, band_at, bands_at, Found};
 ghost use Rattle.request.specs.Gathering.{field_of, weight_by, Small, Short, GatheredAt};
 
-use crate::bytes::{digit, is_digit};
+use crate::bytes::is_digit;
 use quantity::signed::less;
 use quantity::{Refusal, Tenths, byte};
 
@@ -26,19 +25,21 @@ pub struct Field {
 }
 
 // The digit after the point: the figure, up to `next`, if it is one.
+#[tactic(auto, using(crate::proofs::Leaves::digits))]
 fn tenth_of(b: u8, whole: u32, next: usize) -> Option<Figure>
     requires { whole < 1000 }
     ensures { result ≡ tenth_by b whole next }
 {
-    if is_digit(b) {
-        return Some(Figure {
-            tenths: 10 * whole + (b - b'0') as u32,
-            next,
-        });
+    if !is_digit(b) {
+        return None;
     }
-    None
+    Some(Figure {
+        tenths: 10 * whole + u32::from(b - b'0'),
+        next,
+    })
 }
 
+#[tactic(auto, unfolding(crate::specs::Reading::tenth_at))]
 fn tenth_at(s: &[u8], at: usize, whole: u32) -> Option<Figure>
     requires { (whole < 1000) × (at ≤ length s.now) }
     ensures { result ≡ tenth_at s.now at whole }
@@ -47,62 +48,55 @@ fn tenth_at(s: &[u8], at: usize, whole: u32) -> Option<Figure>
 }
 
 // After three digits of the whole part: a point.
+#[tactic(auto, unfolding(crate::specs::Reading::third_at))]
 fn third_at(s: &[u8], at: usize, whole: u32) -> Option<Figure>
     requires { whole < 1000 }
     ensures { result ≡ third_at s.now at whole }
 {
-    if byte(s, at) == b'.' {
-        return tenth_at(s, at + 1, whole);
+    match byte(s, at) {
+        b'.' => tenth_at(s, at + 1, whole),
+        _ => None,
     }
-    None
 }
 
 // After two digits: a point, or a third digit.
+#[tactic(auto, using(crate::proofs::Leaves::digits), unfolding(crate::specs::Reading::second_at))]
 fn second_at(s: &[u8], at: usize, whole: u32) -> Option<Figure>
     requires { whole < 100 }
     ensures { result ≡ second_at s.now at whole }
 {
-    let b = byte(s, at);
-    if b == b'.' {
-        return tenth_at(s, at + 1, whole);
+    match byte(s, at) {
+        b'.' => tenth_at(s, at + 1, whole),
+        b @ b'0'..=b'9' => third_at(s, at + 1, 10 * whole + u32::from(b - b'0')),
+        _ => None,
     }
-    let d = digit(b);
-    if d < 10 {
-        return third_at(s, at + 1, 10 * whole + d);
-    }
-    None
 }
 
 // After one digit: a point, or a second digit if the first is no 0.
+#[tactic(auto, using(crate::proofs::Leaves::digits), unfolding(crate::specs::Reading::first_at))]
 fn first_at(s: &[u8], at: usize, whole: u32) -> Option<Figure>
     requires { whole < 10 }
     ensures { result ≡ first_at s.now at whole }
 {
-    let b = byte(s, at);
-    if b == b'.' {
-        return tenth_at(s, at + 1, whole);
+    match byte(s, at) {
+        b'.' => tenth_at(s, at + 1, whole),
+        b @ b'0'..=b'9' if whole > 0 => second_at(s, at + 1, 10 * whole + u32::from(b - b'0')),
+        _ => None,
     }
-    if whole == 0 {
-        return None;
-    }
-    let d = digit(b);
-    if d < 10 {
-        return second_at(s, at + 1, 10 * whole + d);
-    }
-    None
 }
 
 // 1 to 3 digits without a needless leading zero, a point, one digit.
+#[tactic(auto, using(crate::proofs::Leaves::digits), unfolding(crate::specs::Reading::figure_at))]
 fn figure_at(s: &[u8], at: usize) -> Option<Figure>
     ensures { result ≡ figure_at s.now at }
 {
-    let d = digit(byte(s, at));
-    if d < 10 {
-        return first_at(s, at + 1, d);
+    match byte(s, at) {
+        b @ b'0'..=b'9' => first_at(s, at + 1, u32::from(b - b'0')),
+        _ => None,
     }
-    None
 }
 
+#[tactic(auto, unfolding(crate::specs::Gathering::field_of))]
 fn missing_field(next: usize) -> Field
     ensures { Some result ≡ field_of (Found.found Band.missing next) }
 {
@@ -114,6 +108,7 @@ fn missing_field(next: usize) -> Field
     }
 }
 
+#[tactic(auto, unfolding(crate::specs::Gathering::field_of))]
 fn level_field(value: Tenths, limit: bool, next: usize) -> Field
     ensures { Some result ≡ field_of (Found.found (Band.level limit value.0) next) }
 {
@@ -131,6 +126,7 @@ fn level_field(value: Tenths, limit: bool, next: usize) -> Field
 }
 
 // The level that a figure is behind its sign; no level is -0.0.
+#[tactic(auto, unfolding(crate::specs::Gathering::field_of))]
 fn signed(figure: Option<Figure>, limit: bool, minus: bool) -> Option<Field>
     requires { Small figure }
     ensures { result ≡ field_of (signed_by limit minus figure) }
@@ -146,6 +142,7 @@ fn signed(figure: Option<Figure>, limit: bool, minus: bool) -> Option<Field>
 }
 
 // An optional minus and a figure.
+#[tactic(auto, using(crate::proofs::Readers::figure_at_small), unfolding(crate::specs::Reading::level_at))]
 fn level_at(s: &[u8], at: usize, limit: bool) -> Option<Field>
     ensures { result ≡ field_of (level_at s.now at limit) }
 {
@@ -156,20 +153,18 @@ fn level_at(s: &[u8], at: usize, limit: bool) -> Option<Field>
 }
 
 // The band at a position, whatever stands there.
+#[tactic(auto, using(crate::proofs::Leaves::digits), unfolding(crate::specs::Reading::band_at))]
 fn any_band_at(s: &[u8], at: usize) -> Option<Field>
     ensures { result ≡ field_of (band_at s.now at) }
 {
-    let b = byte(s, at);
-    if b == b'L' {
-        return level_at(s, at + 1, true);
+    match byte(s, at) {
+        b'L' => level_at(s, at + 1, true),
+        b'-' => match byte(s, at + 1) {
+            b'0'..=b'9' => level_at(s, at, false),
+            _ => Some(missing_field(at + 1)),
+        },
+        _ => level_at(s, at, false),
     }
-    if b == b'-' {
-        if digit(byte(s, at + 1)) < 10 {
-            return level_at(s, at, false);
-        }
-        return Some(missing_field(at + 1));
-    }
-    level_at(s, at, false)
 }
 
 // The short way, without a look at the end of the line for each byte: one or two digits, a point, one digit. Nearly every band
@@ -184,22 +179,16 @@ fn short_at(s: &[u8], at: usize) -> Option<Figure>
     }
     let ones = s[at + 1];
     if ones == b'.' {
-        return tenth_of(s[at + 2], (tens - b'0') as u32, at + 3);
+        return tenth_of(s[at + 2], u32::from(tens - b'0'), at + 3);
     }
-    if tens == b'0' {
+    if tens == b'0' || !is_digit(ones) || s[at + 2] != b'.' {
         return None;
     }
-    if !is_digit(ones) {
-        return None;
-    }
-    if s[at + 2] == b'.' {
-        return tenth_of(
-            s[at + 3],
-            10 * (tens - b'0') as u32 + (ones - b'0') as u32,
-            at + 4,
-        );
-    }
-    None
+    tenth_of(
+        s[at + 3],
+        10 * u32::from(tens - b'0') + u32::from(ones - b'0'),
+        at + 4,
+    )
 }
 
 // The band at a position: by the short way where it can be gone.
@@ -207,15 +196,15 @@ pub fn band_at(s: &[u8], at: usize) -> Option<Field>
     requires { at ≤ length s.now }
     ensures { result ≡ field_of (band_at s.now at) }
 {
-    if at + 4 <= s.len() {
-        if let Some(figure) = short_at(s, at) {
-            return Some(Field {
-                next: figure.next,
-                value: Tenths(less(figure.tenths, 0)),
-                limit: false,
-                fault: None,
-            });
-        }
+    if at + 4 <= s.len()
+        && let Some(figure) = short_at(s, at)
+    {
+        return Some(Field {
+            next: figure.next,
+            value: Tenths(less(figure.tenths, 0)),
+            limit: false,
+            fault: None,
+        });
     }
     any_band_at(s, at)
 }
@@ -229,13 +218,6 @@ pub struct Gathered {
     pub fault: Option<Refusal>,
     pub marks: u16,
     pub values: [Tenths; 16],
-}
-
-// The first refusal stays.
-fn first_of(fault: Option<Refusal>, other: Option<Refusal>) -> Option<Refusal>
-    ensures { result ≡ or_else fault other }
-{
-    fault.or(other)
 }
 
 fn weight_of(limit: bool, weight: u32) -> u32
@@ -258,7 +240,7 @@ pub fn bands_at(s: &[u8], start: usize) -> Option<Gathered>
         let band = band_at(s, at + 1)?;
         // on the rare path only: the common turn does not touch the refusal that stands
         if band.fault.is_some() {
-            fault = first_of(fault, band.fault);
+            fault = fault.or(band.fault);
         }
         if count < 16 {
             values[count] = band.value;

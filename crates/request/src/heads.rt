@@ -6,6 +6,7 @@ use kinds::Kind;
 use quantity::{byte, is_key};
 
 // The kind at a position.
+#[tactic(auto, unfolding(crate::specs::Reading::kind_at))]
 pub fn kind_at(s: &[u8], at: usize) -> Option<Kind>
     ensures { result ≡ kind_at s.now at }
 {
@@ -29,9 +30,5 @@ pub fn key_span(s: &[u8], at: usize) -> usize
     requires { at ≤ length s.now }
     ensures { result ≡ key_span (drop at s.now) }
 {
-    let mut n = 0;
-    while is_key(byte(s, at + n)) {
-        n += 1;
-    }
-    n
+    s[at..].iter().take_while(|b| is_key(**b)).count()
 }

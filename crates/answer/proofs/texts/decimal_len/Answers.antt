@@ -4,32 +4,32 @@ use Rattle.answer.proofs.Decimals.{digits_are}
 use Rattle.answer.proofs.Writers.{one-length}
 use Rattle.answer.proofs.texts.decimal_len.Goals as goal
 
-pub returns-then-n-lt10 : goal.returns-then-n-lt10
-returns-then-n-lt10 c = (one-length c.args.n c.if-n-lt10.true, omega arith)
+pub returns-in-0-to-9 : goal.returns-in-0-to-9
+returns-in-0-to-9 c = (one-length c.args.n (omega arith), omega arith)
 
-pub returns-then-n-lt100 : goal.returns-then-n-lt100
-returns-then-n-lt100 c = (digits_are 1 c.args.n c.if-n-lt10.false c.if-n-lt100.true, omega arith)
+pub returns-in-10-to-99 : goal.returns-in-10-to-99
+returns-in-10-to-99 c = (digits_are 1 c.args.n (omega arith) (omega arith), omega arith)
 
-pub returns-then-n-lt1000 : goal.returns-then-n-lt1000
-returns-then-n-lt1000 c = (digits_are 2 c.args.n c.if-n-lt100.false c.if-n-lt1000.true, omega arith)
+pub returns-in-100-to-999 : goal.returns-in-100-to-999
+returns-in-100-to-999 c = (digits_are 2 c.args.n (omega arith) (omega arith), omega arith)
 
-pub returns-then-n-lt10000 : goal.returns-then-n-lt10000
-returns-then-n-lt10000 c = (digits_are 3 c.args.n c.if-n-lt1000.false c.if-n-lt10000.true, omega arith)
+pub returns-in-1000-to-9999 : goal.returns-in-1000-to-9999
+returns-in-1000-to-9999 c = (digits_are 3 c.args.n (omega arith) (omega arith), omega arith)
 
-pub returns-then-n-lt100000 : goal.returns-then-n-lt100000
-returns-then-n-lt100000 c = (digits_are 4 c.args.n c.if-n-lt10000.false c.if-n-lt100000.true, omega arith)
+pub returns-in-10000-to-99999 : goal.returns-in-10000-to-99999
+returns-in-10000-to-99999 c = (digits_are 4 c.args.n (omega arith) (omega arith), omega arith)
 
-pub returns-then-n-lt1000000 : goal.returns-then-n-lt1000000
-returns-then-n-lt1000000 c = (digits_are 5 c.args.n c.if-n-lt100000.false c.if-n-lt1000000.true, omega arith)
+pub returns-in-100000-to-999999 : goal.returns-in-100000-to-999999
+returns-in-100000-to-999999 c = (digits_are 5 c.args.n (omega arith) (omega arith), omega arith)
 
-pub returns-then-n-lt10000000 : goal.returns-then-n-lt10000000
-returns-then-n-lt10000000 c = (digits_are 6 c.args.n c.if-n-lt1000000.false c.if-n-lt10000000.true, omega arith)
+pub returns-in-1000000-to-9999999 : goal.returns-in-1000000-to-9999999
+returns-in-1000000-to-9999999 c = (digits_are 6 c.args.n (omega arith) (omega arith), omega arith)
 
-pub returns-then-n-lt100000000 : goal.returns-then-n-lt100000000
-returns-then-n-lt100000000 c = (digits_are 7 c.args.n c.if-n-lt10000000.false c.if-n-lt100000000.true, omega arith)
+pub returns-in-10000000-to-99999999 : goal.returns-in-10000000-to-99999999
+returns-in-10000000-to-99999999 c = (digits_are 7 c.args.n (omega arith) (omega arith), omega arith)
 
-pub returns-then-n-lt1000000000 : goal.returns-then-n-lt1000000000
-returns-then-n-lt1000000000 c = (digits_are 8 c.args.n c.if-n-lt100000000.false c.if-n-lt1000000000.true, omega arith)
+pub returns-in-100000000-to-999999999 : goal.returns-in-100000000-to-999999999
+returns-in-100000000-to-999999999 c = (digits_are 8 c.args.n (omega arith) (omega arith), omega arith)
 
-pub returns : goal.returns
-returns c = (digits_are 9 c.args.n c.if-n-lt1000000000.false (omega arith), omega arith)
+pub returns-in_default : goal.returns-in_default
+returns-in_default c = (digits_are 9 c.args.n (omega arith) (omega arith), omega arith)

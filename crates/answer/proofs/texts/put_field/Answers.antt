@@ -16,8 +16,8 @@ numbered c =
     let z = c.in-Number.z in
     ap (λ f. tabbed (field_texts f)) c.in-Number.is ∙ number-tabbed z ∙ ap (λ i. tab ∷ number_text i) (sym (back z (omega arith)))
 
-counted : (c : In-Count) → tabbed (field_texts c.args.field) ≡ tab ∷ decimal c.in-Ok.n
-counted c = ap (λ f. tabbed (field_texts f)) c.in-Ok.is ∙ count-tabbed c.in-Ok.n
+counted : (c : In-Count) → tabbed (field_texts c.args.field) ≡ tab ∷ decimal c.in-Count.n
+counted c = ap (λ f. tabbed (field_texts f)) c.in-Count.is ∙ count-tabbed c.in-Count.n
 
 signed : (c : In-Sign) → tabbed (field_texts c.args.field) ≡ tab ∷ c.in-Sign.b ∷ []
 signed c = ap (λ f. tabbed (field_texts f)) c.in-Sign.is ∙ sign-tabbed c.in-Sign.b
@@ -40,10 +40,10 @@ returns-in-Number c =
     let e = numbered (goal.at.returns-in-Number c).In-Number in
     record { value = omega (arith, ap length e); out_after = d.out_after ∙ ap (λ t. front t c.args.out.now) (sym e) }
 
-pub returns-in-Ok : goal.returns-in-Ok
-returns-in-Ok c =
+pub returns-in-Count : goal.returns-in-Count
+returns-in-Count c =
     let d = c.put_count.ensures in
-    let e = counted (goal.at.returns-in-Ok c).In-Count in
+    let e = counted (goal.at.returns-in-Count c).In-Count in
     record { value = omega (arith, ap length e); out_after = d.out_after ∙ ap (λ t. front t c.args.out.now) (sym e) }
 
 pub returns-in-Sign : goal.returns-in-Sign

@@ -5,8 +5,8 @@ use lib.ListN.{length}
 use Rattle.request.proofs.Gathers.{Gathering}
 use Rattle.request.proofs.bands.bands_at.Given as goal
 
-abbrev pub invariant-loop-band : goal.invariant-loop-band
-invariant-loop-band l = Gathering l.s l.start l.values l.marks l.weight l.count l.fault l.at
+abbrev pub invariant-loop-at : goal.invariant-loop-at
+invariant-loop-at l = Gathering l.s l.start l.values l.marks l.weight l.count l.fault l.at
 
-abbrev pub decreases-loop-band : goal.decreases-loop-band
-decreases-loop-band l = length l.s - l.at
+abbrev pub decreases-loop-at : goal.decreases-loop-at
+decreases-loop-at l = length l.s - l.at

@@ -1,24 +1,16 @@
--- `request::heads::key_span` meets its contract. The invariant: what was counted, and what is still to be counted, are the
--- whole span. The measure is what is left of the line. Assumes nothing.
-use Rattle.std.proofs.Common.{◌≡◌, ◌+◌, Bool, true, false, sym, ap, ◌∙◌, arith}
-use Rattle.quantity.specs.Keys.{byte_at, key_byte}
-use Rattle.request.proofs.Readers.{span-turn, span-out}
+-- `request::heads::key_span` meets its contract: the bytes in front that may stand in a key are counted. Assumes nothing.
+use Rattle.std.proofs.Common.{◌-◌, length, take, drop, ◌∙◌, rules, tests}
+use Rattle.std.proofs.lemmas.Iterator.{YieldsList-from_slice}
+use Rattle.std.proofs.lemmas.Iterator.Search.{YieldsList-from_take_while}
+use Rattle.std.proofs.lemmas.Iterator.Consumers.{count_from_yields_List}
+use Rattle.quantity.specs.Keys.{key_byte}
+use Rattle.request.proofs.Readers.{span_taken}
 use Rattle.request.proofs.heads.key_span.Goals as goal
-use Rattle.request.proofs.heads.key_span.Goals.{After-is_key}
-
--- what the test of a byte says
-key-at : (c : After-is_key) (b : Bool) → c.is_key.result ≡ b → key_byte (byte_at c.args.s.now (c.args.at + c.loop-n.n)) ≡ b
-key-at c b e = sym (ap key_byte c.byte.ensures) ∙ sym c.is_key.ensures ∙ e
-
-pub loop-n-smaller : goal.loop-n-smaller
-loop-n-smaller c =
-    let key = key-at (goal.at.loop-n-smaller c).After-is_key true c.loop-n-test.true in
-    let h = span-turn c.args.s.now c.args.at c.loop-n.n c.loop-n.invariant.1 key in
-    omega (arith, h.0)
-
-pub loop-n-preserved : goal.loop-n-preserved
-loop-n-preserved c =
-    span-turn c.args.s.now c.args.at c.loop-n.n c.loop-n.invariant.1 (key-at (goal.at.loop-n-preserved c).After-is_key true c.loop-n-test.true)
 
 pub returns : goal.returns
-returns c = span-out c.args.s.now c.args.at c.loop-n.n c.loop-n.invariant.1 (key-at (goal.at.returns c).After-is_key false c.loop-n-test.false)
+returns c =
+    let l = take (length c.args.s.now - c.args.at) (drop c.args.at c.args.s.now) in
+    let w = c.take_while in
+    count_from_yields_List w.result c.count.result c.count.ensures.ran
+    (YieldsList-from_take_while _ key_byte (YieldsList-from_slice l cc) w.ensures.closure w.ensures.done (λ x b q k. search (rules, tests)))
+    ∙ span_taken c.args.s.now c.args.at
