@@ -1,6 +1,6 @@
--- What each walk over the bands adds: sums, totals of deficits, the least. One law for the start, one for a turn and one for
--- the way out of each loop. Assumes nothing.
-use mathlib.Core.Path.{◌≡◌, refl, sym, ◌∙◌, ap, ap₂, subst}
+-- Walks over the bands: totals of deficits, the least level, sums of energies, levels stored one after the other, and the search.
+-- Assumes nothing.
+use mathlib.Core.Path.{◌≡◌, sym, ◌∙◌, ap, ap₂, subst}
 use mathlib.Core.List.{List}
 use Prim.Native.Nat.{ℕ, zero, suc, ◌+◌, ◌*◌, ◌-◌, ◌≤◌, ◌<◌, min}
 use native.Mathlib.Nat.{le_refl, lt_irrefl}
@@ -8,7 +8,6 @@ use native.Mathlib.Decide.{dec_lt}
 use native.Mathlib.Omega.{arith}
 use lib.ListN.{length, get_or, set}
 use lib.Seq.{get_or-set_same, get_or-set_other}
-use Rattle.laws.specs.Sums.{sum_to}
 use Rattle.laws.proofs.Sums.{sum-none, sum_more, sum_bound}
 use Rattle.energy.specs.Energies.{F}
 use Rattle.energy.proofs.Scaled.{F-most}
@@ -23,11 +22,6 @@ pub total-more : (f : ℕ → ℕ) (n p t d : ℕ) → t ≡ total_at f n p → 
 unfolding total_at
 total-more f n p t d a b = ap₂ ◌+◌ a b ∙ sym (sum_more (λ i. 10 * p - f i) n)
 
-pub total-same : (f : ℕ → ℕ) (n p t : ℕ) → t ≡ total_at f n p → 10 * p ≤ f n → t ≡ total_at f (n + 1) p
-total-same f n p t a h =
-    let z : t ≡ t + (10 * p - f n) = omega arith in
-    z ∙ total-more f n p t (10 * p - f n) a refl
-
 pub total-most : (f : ℕ → ℕ) (n p : ℕ) → p < 1000 → total_at f n p ≤ n * 9990
 unfolding total_at
 total-most f n p h = sum_bound (λ i. 10 * p - f i) 9990 n (λ i q. omega arith)
@@ -37,35 +31,7 @@ pub total-zero : (f : ℕ → ℕ) (n : ℕ) → total_at f n 0 ≡ 0
 unfolding total_at
 total-zero f n = let h : total_at f n 0 ≤ n * 0 = sum_bound (λ i. 10 * 0 - f i) 0 n (λ i q. omega arith) in omega arith
 
--- ---- sums of levels
-pub level-sum-most : (f : ℕ → ℕ) (n : ℕ) → ((i : ℕ) → i < n → f i < 10000) → sum_to f n ≤ n * 10000
-level-sum-most f n h = sum_bound f 10000 n (λ i q. omega (arith, h i q))
-
 -- ---- the least level
-pub least_first : (f : ℕ → ℕ) → f 0 ≡ min_to f (0 - 1)
-unfolding min_to
-least_first f = refl
-
-min-more : (f : ℕ → ℕ) (n : ℕ) → min_to f (suc n) ≡ min (min_to f n) (f (suc n))
-unfolding min_to
-min-more f n = refl
-
-pub least_kept : (f : ℕ → ℕ) (i m : ℕ) → m ≡ min_to f (i - 1) → m ≤ f i → m ≡ min_to f (i + 1 - 1)
-least_kept f zero m e g = e
-least_kept f (suc i) m e g =
-    let p : suc i + 1 - 1 ≡ suc i = omega arith in
-    let q : suc i - 1 ≡ i = omega arith in
-    let k : m ≡ min_to f i = e ∙ ap (min_to f) q in
-    sym (ap (min_to f) p ∙ min-more f i ∙ omega arith)
-
-pub least-new : (f : ℕ → ℕ) (i m : ℕ) → m ≡ min_to f (i - 1) → f i < m → f i ≡ min_to f (i + 1 - 1)
-least-new f zero m e g = absurd (omega (arith, least_first f))
-least-new f (suc i) m e g =
-    let p : suc i + 1 - 1 ≡ suc i = omega arith in
-    let q : suc i - 1 ≡ i = omega arith in
-    let k : m ≡ min_to f i = e ∙ ap (min_to f) q in
-    sym (ap (min_to f) p ∙ min-more f i ∙ omega arith)
-
 pub min-below : (f : ℕ → ℕ) (n i : ℕ) → i ≤ n → min_to f n ≤ f i
 unfolding min_to
 min-below f zero zero h = le_refl (f 0)
@@ -77,14 +43,6 @@ min-below f (suc n) i h = go (λ p. min-below f n i p) (dec_lt i (suc n))
     go before (no p) = let e : i ≡ suc n = omega arith in omega (arith, ap f e)
 
 -- ---- sums of energies
-pub energies-none : (f : ℕ → ℕ) (m : ℕ) → 0 ≡ energies_of f 0 m
-unfolding energies_of
-energies-none f m = sym (sum-none (λ i. F (f i - m)))
-
-pub energies-more : (f : ℕ → ℕ) (n m s e : ℕ) → s ≡ energies_of f n m → e ≡ F (f n - m) → s + e ≡ energies_of f (n + 1) m
-unfolding energies_of
-energies-more f n m s e a b = ap₂ ◌+◌ a b ∙ sym (sum_more (λ i. F (f i - m)) n)
-
 pub energies-most : (f : ℕ → ℕ) (n m : ℕ) → energies_of f n m ≤ n * 1000000000
 unfolding energies_of
 energies-most f n m = sum_bound (λ i. F (f i - m)) 1000000000 n (λ i q. F-most (f i - m))

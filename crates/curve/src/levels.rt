@@ -1,5 +1,5 @@
 // The shared rating over levels: sums, the search for the accepted position, and the sum of energies.
-ghost use Rattle.std.specs.Prelude.{◌≡◌, true, ◌&&◌, ℕ, ◌≤◌, ◌<◌, get_or};
+ghost use Rattle.std.specs.Prelude.{◌≡◌, true, ℕ, ◌≤◌, ◌<◌, get_or};
 ghost use Rattle.laws.specs.Sums.{sum_to};
 ghost use Rattle.quantity.specs.Quantities.{in_range, band_of};
 ghost use Rattle.curve.specs.Bands.{accepted};
@@ -17,25 +17,16 @@ pub struct Accepted {
     pub shifts: u32,
 }
 
-fn both(a: bool, b: bool) -> bool
-    ensures { result ≡ a && b }
-{
-    if a {
-        return b;
-    }
-    false
-}
-
 // Whether the first `bands` values of the set are all in range. Without a way out of the loop, so that several are looked at at
 // once.
+#[tactic(auto, unfolding(crate::specs::Bands::accepted, laws::specs::Tests::all_to))]
 pub fn all_in_range(set: BandSet, bands: usize) -> bool
     requires { bands ≤ 16 }
     ensures { result ≡ accepted set bands }
 {
     let mut all = true;
-    for i in 0..bands {
-        let value = set.values[i];
-        all = both(all, value.in_range());
+    for value in &set.values[..bands] {
+        all &= value.in_range();
     }
     all
 }
@@ -53,6 +44,7 @@ pub fn counted(z: i32, airborne: bool, origin: u32) -> u32
 }
 
 // The level of one band, counted from its entry.
+#[tactic(auto, using(crate::proofs::Counted::countable))]
 pub fn level_of(value: Tenths, airborne: bool, entry: u32) -> u32
     requires ranged { in_range value.0 ≡ true }
     requires entries { Entries airborne entry }
@@ -65,13 +57,7 @@ pub fn level_of(value: Tenths, airborne: bool, entry: u32) -> u32
 pub fn plain(set: BandSet) -> [i32; 16]
     ensures { (i : ℕ) → i < 16 → plain_at result i ≡ band_of set i }
 {
-    let mut out = [0i32; 16];
-    for i in 0..16 {
-        let value = set.values[i];
-        let tenths = value.0;
-        out[i] = tenths;
-    }
-    out
+    set.values.map(|value| value.0)
 }
 
 // The levels of the first `bands` values, counted from the entries.
@@ -83,26 +69,27 @@ pub fn levels(values: &[i32; 16], bands: usize, airborne: bool, entries: [u32; 1
 {
     let mut out = [0u32; 16];
     for i in 0..bands {
-        let value = Tenths(values[i]);
-        out[i] = level_of(value, airborne, entries[i]);
+        out[i] = level_of(Tenths(values[i]), airborne, entries[i]);
     }
     out
 }
 
 // The sum of the levels.
+#[tactic(auto, unfolding(laws::specs::Sums::sum_to))]
 pub fn sum(levels: &[u32; 16], bands: usize) -> u32
     requires bands_bound { bands ≤ 16 }
     requires each_small { (i : ℕ) → i < bands → at levels.now i < 10000 }
     ensures { result ≡ sum_to (at levels.now) bands }
 {
     let mut sum = 0;
-    for i in 0..bands {
-        sum += levels[i];
+    for level in &levels[..bands] {
+        sum += *level;
     }
     sum
 }
 
 // The total of the deficits at position p.
+#[tactic(auto, unfolding(crate::specs::Levels::total_at, laws::specs::Sums::sum_to))]
 pub fn total(levels: &[u32; 16], bands: usize, p: Position) -> u32
     requires bands_bound { bands ≤ 16 }
     requires p_bound { p.0 < 500 }
@@ -110,10 +97,8 @@ pub fn total(levels: &[u32; 16], bands: usize, p: Position) -> u32
 {
     let height = p.tenths();
     let mut total = 0;
-    for i in 0..bands {
-        if levels[i] < height {
-            total += height - levels[i];
-        }
+    for level in &levels[..bands] {
+        total += height.saturating_sub(*level);
     }
     total
 }
@@ -134,28 +119,28 @@ pub fn settle(levels: &[u32; 16], bands: usize, limit: u32, start: Position) -> 
 }
 
 // The least level. The walk looks at the first level once more, so that it goes over sixteen and several are looked at at once.
+#[tactic(auto, unfolding(crate::specs::Levels::least_of, crate::specs::Levels::min_to))]
 pub fn least(levels: &[u32; 16], bands: usize) -> u32
     requires { (1 ≤ bands) × (bands ≤ 16) }
     ensures { result ≡ least_of (at levels.now) bands }
 {
     let mut least = levels[0];
-    for i in 0..bands {
-        if levels[i] < least {
-            least = levels[i];
-        }
+    for level in &levels[..bands] {
+        least = least.min(*level);
     }
     least
 }
 
 // The sum of the energies of the levels, m the least of them.
+#[tactic(auto, unfolding(crate::specs::Levels::energies_of, laws::specs::Sums::sum_to))]
 pub fn energies(levels: &[u32; 16], bands: usize, m: u32, tables: RatingTables) -> u64
     requires bands_bound { bands ≤ 16 }
     requires least { (i : ℕ) → i < bands → m ≤ at levels.now i }
     ensures { result ≡ energies_of (at levels.now) bands m }
 {
     let mut sum = 0u64;
-    for i in 0..bands {
-        sum += u64::from(tables.energy(levels[i] - m));
+    for level in &levels[..bands] {
+        sum += u64::from(tables.energy(*level - m));
     }
     sum
 }
