@@ -120,6 +120,7 @@ pub fn sheet_of(kind: Kind, set: BandSet, tables: RatingTables) -> Result<Sheet,
 }
 
 // Whether a set can be rated: 1 where its length is not the kind's, then 4 where a band is out of range.
+#[tactic(auto, unfolding(crate::specs::Sheets::accept_of))]
 fn accept(kind: Kind, set: BandSet) -> Result<(), Refusal>
     ensures { result ≡ accept_of kind set }
 {
@@ -146,6 +147,7 @@ fn rating_of(kind: Kind, set: BandSet) -> Decibels
 }
 
 // The rating alone, as `rate` gives it: no table of energies is laid out for it.
+#[tactic(auto, unfolding(crate::specs::Sheets::accept_of, crate::specs::Sheets::rated_of, crate::specs::Sheets::sheet_of))]
 pub fn rate_alone(kind: Kind, set: BandSet) -> Result<Decibels, Refusal>
     ensures { result ≡ single_of (rated_of kind set) }
 {
@@ -154,6 +156,7 @@ pub fn rate_alone(kind: Kind, set: BandSet) -> Result<Decibels, Refusal>
 }
 
 // Rates a band set: its sheet, or the refusal.
+#[tactic(auto, unfolding(crate::specs::Sheets::accept_of, crate::specs::Sheets::rated_of))]
 pub fn rate(kind: Kind, set: BandSet) -> Result<Sheet, Refusal>
     ensures { result ≡ rated_of kind set }
 {
