@@ -21,7 +21,7 @@ use Rattle.rating.proofs.RatedLaws.{wrong-count}
 use Rattle.sets.specs.Masks.{smaller, masks_in_order, filter}
 use Rattle.sets.specs.Highest.{highest}
 use Rattle.lift.specs.Reach.{better_by, meets_by, lifted, reaches, listed_mask, lift_list}
-use Rattle.lift.specs.Calls.{in_targets, places_of, tested, count_of, answer_by, answer_of, buffer_by}
+use Rattle.lift.specs.Calls.{in_targets, places_of, count_of, answer_by, answer_of, buffer_by}
 use Rattle.std.specs.Prelude.{Result, Ok, Err}
 use Rattle.quantity.specs.declared.refusals.Refusal.{Refusal}
 use Rattle.rating.specs.declared.sheets.Sheet.{Sheet}
@@ -49,12 +49,12 @@ module _ (k : Kind) (s t : BandSet) (target : ℤ) (room : ℕ) (len : s.len ≡
   count_same =
       let r = rating-same k (band_of s) (band_of t) values in
       let l = list-past k (band_of s) (band_of t) target values in
-      λ i. tested (in_targets target)
-      (tested (better_by (airborne k) target (r i)) (tested (leb (places_of k) room) (Ok (length (l i))) (Err OutputTooSmall)) (Err TargetNotBetter))
-      (Err TargetRange)
+      λ i. asked (in_targets target)
+      (asked (better_by (airborne k) target (r i)) (asked (leb (places_of k) room) (Ok (length (l i))) OutputTooSmall) TargetNotBetter)
+      TargetRange
 
   abbrev answer : BandSet → Bool → Bool → Result ℕ Refusal
-  answer u a b = answer_by (asked a (asked b (Ok (sheet_of k u)) (Err BandRange)) (Err BandCount)) k u target room
+  answer u a b = answer_by (asked a (asked b (Ok (sheet_of k u)) BandRange) BandCount) k u target room
 
   answer-same : (a b : Bool) → answer s a b ≡ answer t a b
   unfolding sheet_of

@@ -16,7 +16,7 @@ use Rattle.quantity.specs.declared.refusals.Refusal.TheVariants.{TargetNotBetter
 use Rattle.laws.specs.Tests.{all_to}
 use Rattle.kinds.specs.declared.kinds.Kind.{Kind}
 use Rattle.kinds.specs.Kinds.{airborne, bands_of}
-use Rattle.rating.specs.Sheets.{rated_of}
+use Rattle.rating.specs.Sheets.{asked, rated_of}
 use Rattle.sets.specs.Masks.{is_mask, smaller, before, masks_in_order}
 use Rattle.laws.proofs.Tests.{and_left, and_right, and_both}
 use Rattle.laws.proofs.Ranges.{all_read, all_hold}
@@ -24,7 +24,7 @@ use Rattle.sets.proofs.Filters.{Kept, filter-read, filter-made, each_of, rising-
 use Rattle.sets.proofs.Order.{before-chain, before-other}
 use Rattle.sets.proofs.Enumeration.{all-sets, sets-rise, every_set}
 use Rattle.lift.specs.Reach.{better_by, reaches, listed_mask, lift_list, Listed}
-use Rattle.lift.specs.Calls.{in_targets, places_of, tested, count_of, answer_by, answer_of, buffer_by, LiftIs}
+use Rattle.lift.specs.Calls.{in_targets, places_of, count_of, answer_by, answer_of, buffer_by, LiftIs}
 use Rattle.std.specs.Prelude.{Result, Ok, Err}
 use Rattle.quantity.specs.declared.refusals.Refusal.{Refusal}
 use Rattle.rating.specs.declared.sheets.Sheet.{Sheet}
@@ -89,7 +89,7 @@ module _ (k : Kind) (s : BandSet) (t : ℤ) (lent : List ℕ) where
   list = lift_list k (band_of s) t
 
   counted : (a b c : Bool) (n : ℕ)
-      → Ok n ≡ tested a (tested b (tested c (Ok (length list)) (Err OutputTooSmall)) (Err TargetNotBetter)) (Err TargetRange) → n ≡ length list
+      → Ok n ≡ asked a (asked b (asked c (Ok (length list)) OutputTooSmall) TargetNotBetter) TargetRange → n ≡ length list
   counted true true true n e = cc
   counted true true false n e = cc
   counted true false c n e = cc

@@ -50,11 +50,6 @@ abbrev pub buffer_by : Result ℕ Refusal → List ℕ → List ℕ → List ℕ
 buffer_by (Ok n) list buffer = front list buffer
 buffer_by (Err r) list buffer = buffer
 
--- of a set that rates so: the answer, and the buffer
-pub record RatedIs (k : Kind) (s : BandSet) (target rating : ℤ) (before : List ℕ) (r : Result ℕ Refusal) (after : List ℕ) : Type 0 where
-  pub answer : r ≡ count_of k s target (length before) rating
-  pub buffer : after ≡ buffer_by r (lift_list k (band_of s) target) before
-
 -- the whole promise of the call
 pub record LiftIs (k : Kind) (s : BandSet) (target : ℤ) (before : List ℕ) (r : Result ℕ Refusal) (after : List ℕ) : Type 0 where
   pub answer : r ≡ answer_of k s target (length before)

@@ -6,7 +6,7 @@ ghost use Rattle.kinds.specs.Kinds.{airborne, bands_of};
 ghost use Rattle.rating.specs.Curve.{rating_of};
 ghost use Rattle.laws.specs.Lists.{front};
 ghost use Rattle.lift.specs.Reach.{better_by, lift_list};
-ghost use Rattle.lift.specs.Calls.{in_targets, places_of, RatedIs, LiftIs};
+ghost use Rattle.lift.specs.Calls.{in_targets, places_of, LiftIs};
 
 use kinds::{Kind, numbers_of, sets_of};
 use listing::fill;
@@ -15,6 +15,7 @@ use rating::rate_alone;
 use sets::{gains_at, position_at};
 
 // Whether a target lies in -100..200.
+#[tactic(auto, unfolding(crate::specs::Calls::in_targets))]
 fn in_targets(target: Decibels) -> bool
     ensures { result ≡ in_targets target.0 }
 {
@@ -22,10 +23,11 @@ fn in_targets(target: Decibels) -> bool
 }
 
 // Whether a target is better than a rating.
-fn better(airborne: bool, target: Decibels, rating: Decibels) -> bool
-    ensures { result ≡ better_by airborne target.0 rating.0 }
+#[tactic(auto, unfolding(kinds::specs::Numbers::numbers_of))]
+fn better(kind: Kind, target: Decibels, rating: Decibels) -> bool
+    ensures { result ≡ better_by (airborne kind) target.0 rating.0 }
 {
-    if airborne {
+    if numbers_of(kind).airborne {
         rating.0 < target.0
     } else {
         target.0 < rating.0
@@ -50,44 +52,26 @@ fn list(kind: Kind, set: BandSet, target: Decibels, out: &mut [u16]) -> usize
 {
     let n = numbers_of(kind);
     // a better target is stricter than position 0, at which nothing is missing
-    let origin = n.origin;
-    let p = position_at(target, n.airborne, origin);
-    let entries = n.entries;
-    let gains = gains_at(set, n.bands, n.airborne, entries, p);
-    let each = gains.each;
-    fill(&each, n.bands, gains.total - n.limit, out)
+    let p = position_at(target, n.airborne, n.origin);
+    let gains = gains_at(set, n.bands, n.airborne, n.entries, p);
+    fill(&gains.each, n.bands, gains.total - n.limit, out)
 }
 
-// The list of a set that has been rated, or the refusal of its target or its room.
-fn lift_rated(
-    kind: Kind,
-    set: BandSet,
-    target: Decibels,
-    rating: Decibels,
-    out: &mut [u16],
-) -> Result<usize, Refusal>
-    requires set_accepted { accepted set (bands_of kind) ≡ true }
-    requires rated { rating.0 ≡ rating_of kind (band_of set) }
-    ensures { RatedIs kind set target.0 rating.0 out.old result out.new }
+// Lists the least sets of one to three bands that reach the target: their count, with the sets from place 0 of `out` on and
+// the places after them as they were; or a refusal, with all of `out` as it was.
+#[tactic(auto, unfolding(crate::specs::Calls::answer_of, crate::specs::Calls::count_of, rating::specs::Sheets::rated_of, rating::specs::Sheets::sheet_of))]
+pub fn lift(kind: Kind, set: BandSet, target: Decibels, out: &mut [u16]) -> Result<usize, Refusal>
+    ensures { LiftIs kind set target.0 out.old result out.new }
 {
+    let rating = rate_alone(kind, set)?;
     if !in_targets(target) {
         return Err(Refusal::TargetRange);
     }
-    let n = numbers_of(kind);
-    if !better(n.airborne, target, rating) {
+    if !better(kind, target, rating) {
         return Err(Refusal::TargetNotBetter);
     }
     if out.len() < places(kind) {
         return Err(Refusal::OutputTooSmall);
     }
     Ok(list(kind, set, target, out))
-}
-
-// Lists the least sets of one to three bands that reach the target: their count, with the sets from place 0 of `out` on and
-// the places after them as they were; or a refusal, with all of `out` as it was.
-pub fn lift(kind: Kind, set: BandSet, target: Decibels, out: &mut [u16]) -> Result<usize, Refusal>
-    ensures { LiftIs kind set target.0 out.old result out.new }
-{
-    let rating = rate_alone(kind, set)?;
-    lift_rated(kind, set, target, rating, out)
 }

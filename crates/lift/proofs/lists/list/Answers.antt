@@ -1,43 +1,78 @@
 -- `lift::lists::list` meets its contract: the position of a better target can be counted, the total there is over the limit,
 -- and the list by gains is the list by ratings. Assumes nothing.
-use mathlib.Core.Path.{◌∙◌, ap}
+use mathlib.Core.Path.{◌≡◌, ◌∙◌, ap}
 use mathlib.Core.List.{List}
-use Prim.Native.Nat.{ℕ}
+use Prim.Native.Nat.{ℕ, ◌-◌}
+use native.Mathlib.Nat.{le_of_lt}
 use lib.ListN.{length}
 use Rattle.laws.specs.Lists.{front}
-use Rattle.lift.proofs.Answers.{Worked, asks-count, asks-gains, worked}
+use Rattle.quantity.specs.Quantities.{band_of}
+use Rattle.curve.specs.Levels.{at, level_by}
+use Rattle.curve.proofs.Searched.{count_most}
+use Rattle.kinds.specs.Kinds.{airborne, bands_of}
+use Rattle.kinds.specs.Numbers.{entries_of, numbers_of, rating_at}
+use Rattle.kinds.proofs.Facts.{count-of, entries_fit}
+use Rattle.sets.specs.Gains.{by_gains, Gained}
+use Rattle.lift.specs.Reach.{lift_list}
+use Rattle.lift.proofs.Listing.{can-count, position-small, above-limit, need-small, gains-small, list-is, list-room}
 use Rattle.lift.proofs.lists.list.Goals as goal
 use Rattle.lift.proofs.lists.list.Goals.{After-gains_at-gains}
 
--- what the gains at the position give
-done : (c : After-gains_at-gains) →
-    Worked c.args.kind c.args.set c.args.target.0 c.gains_at-gains.result.each c.gains_at-gains.result.total
-    (length c.args.out.now) c.numbers_of-n.result
-done c =
-    let p = c.requires in
-    worked _ _ p.set_accepted _ p.target_in_range p.better _ c.numbers_of-n.ensures _ _ _ _ c.position_at-p.ensures p.room
-    c.gains_at-gains.ensures
-
 pub position_at-p-requires : goal.position_at-p-requires
-position_at-p-requires c = asks-count _ _ c.requires.set_accepted _ c.requires.target_in_range c.requires.better _ c.numbers_of-n.ensures
+unfolding numbers_of
+position_at-p-requires c =
+    let p = c.requires in rw c.numbers_of-n.ensures (can-count _ _ p.set_accepted _ p.target_in_range p.better)
 
 pub gains_at-gains-requires : goal.gains_at-gains-requires
+unfolding numbers_of
 gains_at-gains-requires c =
     let p = c.requires in
-    let a = asks-gains _ _ p.set_accepted _ p.target_in_range p.better _ c.numbers_of-n.ensures _ c.position_at-p.ensures in
-    record { bands_bound = a.0; set_accepted = a.1.0; each_entry = a.1.1.0; p_bound = a.1.1.1 }
+    let e = c.numbers_of-n.ensures in record {
+      bands_bound = rw e (count_most (count-of c.args.kind));
+      set_accepted = rw e p.set_accepted;
+      each_entry = rw e (entries_fit c.args.kind);
+      p_bound = rw (c.position_at-p.ensures, e) (position-small _ _ p.set_accepted _ p.target_in_range p.better);
+    }
+
+-- the gains are those of the kind, at the position that rates the target
+gained : (c : After-gains_at-gains)
+    → let k = c.args.kind in let r = c.gains_at-gains.result in
+    Gained (airborne k) c.args.set (entries_of k) (bands_of k) (level_by (airborne k) c.args.target.0 (rating_at k)) r.each r.total
+unfolding numbers_of
+gained c = rw (c.position_at-p.ensures, c.numbers_of-n.ensures) at c.gains_at-gains.ensures
+
+-- the list by them is the list by ratings
+listed : (c : After-gains_at-gains)
+    → let r = c.gains_at-gains.result in let n = c.numbers_of-n.result in
+    by_gains (at r.each) (r.total - n.limit) n.bands ≡ lift_list c.args.kind (band_of c.args.set) c.args.target.0
+unfolding numbers_of
+listed c =
+    let p = c.requires in rw c.numbers_of-n.ensures (list-is _ _ p.set_accepted _ p.target_in_range p.better _ _ (gained c))
 
 pub overflow_sub-gains : goal.overflow_sub-gains
-overflow_sub-gains c = (done (goal.at.overflow_sub-gains c).After-gains_at-gains).over
+unfolding numbers_of
+overflow_sub-gains c =
+    let p = c.requires in
+    let g = gained (goal.at.overflow_sub-gains c).After-gains_at-gains in
+    rw c.numbers_of-n.ensures (le_of_lt (above-limit _ _ p.set_accepted _ p.target_in_range p.better _ _ g))
 
 pub fill-requires : goal.fill-requires
+unfolding numbers_of
 fill-requires c =
-    let d = done (goal.at.fill-requires c).After-gains_at-gains in
-    record { bounded = d.bounded; room = d.fits }
+    let p = c.requires in
+    let w = (goal.at.fill-requires c).After-gains_at-gains in
+    let e = c.numbers_of-n.ensures in record {
+      bounded = record {
+        bands = rw e (count_most (count-of c.args.kind));
+        needed = rw e (need-small _ _ p.set_accepted _ p.target_in_range p.better _ _ (gained w));
+        small = gains-small _ _ p.set_accepted _ p.target_in_range p.better _ _ (gained w);
+      };
+      room = rw (listed w) (list-room _ _ _ _ p.room);
+    }
 
 pub returns : goal.returns
 returns c =
-    let e = (done (goal.at.returns c).After-gains_at-gains).list in record {
+    let e = listed (goal.at.returns c).After-gains_at-gains in record {
       value = c.fill.ensures.value ∙ ap length e;
       out_after = c.fill.ensures.out_after ∙ ap (λ (l : List ℕ). front l c.args.out.now) e;
     }
