@@ -37,12 +37,12 @@ rated-fits k s = go (rated_of k s) refl
     go (Ok sheet) e = rated-shifts k s sheet e
     go (Err r) e = tt
 
-pub rate-fits : (k : Kind) (s : BandSet) (r : Result Sheet Refusal) → rated_answer r ≡ rated_answer (rated_of k s) → Fitting r
-rate-fits k s r e = fits-as r (rated_of k s) e (rated-fits k s)
+pub rate_fits : (k : Kind) (s : BandSet) (r : Result Sheet Refusal) → rated_answer r ≡ rated_answer (rated_of k s) → Fitting r
+rate_fits k s r e = fits-as r (rated_of k s) e (rated-fits k s)
 
-pub readings-fit : (k : Kind) (readings : List Reading) (len : ℕ) (r : Result Sheet Refusal) → rated_answer r ≡ rated_answer (readings_rated k readings len) → Fitting r
+pub readings_fit : (k : Kind) (readings : List Reading) (len : ℕ) (r : Result Sheet Refusal) → rated_answer r ≡ rated_answer (readings_rated k readings len) → Fitting r
 unfolding readings_rated
-readings-fit k readings len r e = fits-as r (readings_rated k readings len) e (go (list_of readings len (bands_of k)))
+readings_fit k readings len r e = fits-as r (readings_rated k readings len) e (go (list_of readings len (bands_of k)))
   where
     go : (l : Result BandSet Refusal) → Fitting (rated_by k l)
     go (Ok s) = rated-fits k s
@@ -60,9 +60,9 @@ grade-bound z =
     go true h k = k
     go false h k = h
 
-pub grades-fit : (readings : List Reading) (len : ℕ) (side : Side) (r : Result Grade Refusal) → graded_answer r ≡ graded_answer (grades_of readings len side) → GradeFits r
+pub grades_fit : (readings : List Reading) (len : ℕ) (side : Side) (r : Result Grade Refusal) → graded_answer r ≡ graded_answer (grades_of readings len side) → GradeFits r
 unfolding grades_of
-grades-fit readings len side r e =
+grades_fit readings len side r e =
     subst GradeFits (sym (graded-one r (graded side (specimens_of readings len)) e)) (go (specimens_of readings len))
   where
     by : (r : Result Sheet Refusal) → GradeFits (graded_by side r)

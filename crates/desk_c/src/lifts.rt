@@ -1,4 +1,6 @@
 // The lift list.
+#![tactic(auto, unfolding(crate::specs::Lifts::lift_answer, crate::specs::Lifts::lift_held, crate::specs::Lifts::list_by, lift::specs::Calls::answer_of, lift::specs::Calls::count_of))]
+
 ghost use Rattle.std.specs.Prelude.{◌≡◌, length};
 ghost use Rattle.lift.specs.Calls.{answer_of, count_answer};
 ghost use Rattle.door.specs.Answers.{returned, held};

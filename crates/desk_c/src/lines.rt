@@ -1,5 +1,7 @@
 // Request lines and blocks of them. Each call is refused with 10 alone, so it does not show which lent array is tested first:
 // the small one is, and nothing is written to the output where it is too small.
+#![tactic(auto, unfolding(crate::specs::Lines::line_answer, crate::specs::Lines::line_held, crate::specs::Lines::block_answer, crate::specs::Lines::block_held, line::specs::Answers::wrote_of))]
+
 ghost use Rattle.std.specs.Prelude.{◌≡◌, length};
 ghost use Rattle.door.specs.Answers.{returned, held};
 ghost use Rattle.desk_c.specs.Lines.{line_answer, line_held, is_set, block_answer, block_held};

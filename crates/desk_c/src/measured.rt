@@ -1,4 +1,6 @@
 // Rooms, specimens, covers, doors and windows.
+#![tactic(auto, unfolding(crate::specs::Rooms::field_answer, crate::specs::Rooms::laboratory_answer, crate::specs::Rooms::raw_answer, crate::specs::Rooms::octaves_answer, crate::specs::Rooms::specimens_answer, crate::specs::Rooms::cover_answer))]
+
 ghost use Rattle.std.specs.Prelude.{◌≡◌, length};
 ghost use Rattle.door.specs.Answers.{returned, held};
 ghost use Rattle.desk_c.specs.Rooms.{field_answer, laboratory_answer, raw_answer, octaves_answer, specimens_answer, cover_answer, grade_answer};
@@ -86,6 +88,7 @@ pub extern "C" fn imbrolt_cover(values: &[i32], marks: u32, out: &mut [i32]) -> 
 }
 
 // The grade of a door or window from three specimens.
+#[tactic(auto, using(crate::proofs::Fits::grades_fit), unfolding(crate::specs::Rooms::grade_answer))]
 #[unsafe(no_mangle)]
 pub extern "C" fn imbrolt_grade(side: u32, marks: &[u8], values: &[f32], out: &mut [i32]) -> u32
     ensures value { result ≡ returned (grade_answer side marks.now values.now) (length out.old) }

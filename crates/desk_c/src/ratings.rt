@@ -1,4 +1,6 @@
 // Readings and ratings.
+#![tactic(auto, using(crate::proofs::Fits::rate_fits, crate::proofs::Fits::readings_fit), unfolding(crate::specs::Ratings::reading_answer, crate::specs::Ratings::rate_answer, crate::specs::Ratings::readings_answer))]
+
 ghost use Rattle.std.specs.Prelude.{◌≡◌, length};
 ghost use Rattle.door.specs.Answers.{returned, held};
 ghost use Rattle.desk_c.specs.Ratings.{reading_answer, rate_answer, readings_answer};
