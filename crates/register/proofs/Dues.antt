@@ -1,5 +1,4 @@
--- What a call comes to: by the place of its key in a sound register, then by each test of the code in order, and the answer and
--- the register that follow. Assumes nothing.
+-- What a call comes to: by the place of its key in a sound register, then by each test of the code in order. Assumes nothing.
 use mathlib.Core.Path.{◌≡◌, sym, ◌∙◌, ap}
 use mathlib.Core.Bool.{true, false, ◌&&◌}
 use Prim.Native.Nat.{ℕ, ◌≤◌, ◌<◌}
@@ -14,9 +13,8 @@ use Rattle.rating.specs.declared.sheets.Sheet.{Sheet}
 use Rattle.rating.specs.Sheets.{rated_of}
 use Rattle.entry.specs.declared.entries.Entry.{Entry}
 use Rattle.register.specs.declared.registers.Register.{Register}
-use Rattle.register.specs.declared.steps.Step.{Step}
 use Rattle.entry.specs.Entries.{same_key, same_bands, Call, entry_of}
-use Rattle.register.specs.Registers.{entry_at, sound, known, held, Due, place_due, due_of, billed_by, billed_of, after_by, after_of}
+use Rattle.register.specs.Registers.{entry_at, sound, known, held, place_due, due_of}
 use Rattle.register.specs.Registers.Due.{refuse, repeat, enter}
 use Rattle.laws.proofs.Ranges.{any_none, any_found, any-mono}
 use Rattle.entry.proofs.Texts.{key-sym, key-trans}
@@ -111,21 +109,3 @@ module _ (r : Register) (x : Call) where
         pub due-placed : priced x.price ≡ true → due_of r x ≡ place_due r (entry_of x) sheet
         unfolding due_of
         due-placed d = rw (a, b, c, d)
-
--- ---- the answer and the register
-pub refused-by : (r : Register) (s : Step) (f : Refusal) (d : Due) (e : Entry) (p : ℕ) → s ≡ record { register = r; billed = Err f } → d ≡ refuse f
-    → (s.billed ≡ billed_by d p) × (s.register ≡ after_by d r e)
-refused-by r s f d e p h g = rw g (ap (λ (t : Step). t.billed) h, ap (λ (t : Step). t.register) h)
-
-abbrev pub Steps : Register → Call → Step → Type 0
-Steps r x s = (s.billed ≡ billed_of r x) × (s.register ≡ after_of r x)
-
-module _ (r : Register) (x : Call) (s : Step) where
-  pub step-refused : (f : Refusal) → s ≡ record { register = r; billed = Err f } → due_of r x ≡ refuse f → Steps r x s
-  unfolding after_of billed_of
-  step-refused f e d = refused-by r s f (due_of r x) (entry_of x) x.price e d
-
-  pub step-placed : (e : Entry) (sheet : Sheet) → e ≡ entry_of x → due_of r x ≡ place_due r (entry_of x) sheet
-      → s.billed ≡ billed_by (place_due r e sheet) e.price.0 → s.register ≡ after_by (place_due r e sheet) r e → Steps r x s
-  unfolding after_of billed_of entry_of
-  step-placed e sheet p d b a = rw d (b ∙ ap (λ (f : Entry). billed_by (place_due r f sheet) f.price.0) p, a ∙ ap (λ (f : Entry). after_by (place_due r f sheet) r f) p)

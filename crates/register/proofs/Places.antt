@@ -16,6 +16,7 @@ use Rattle.register.specs.declared.registers.Register.{Register}
 use Rattle.entry.specs.Entries.{same_key, word_of}
 use Rattle.register.specs.Registers.{entry_at, repeated}
 use Rattle.register.specs.Looks.{PlaceOf}
+use Rattle.std.specs.Prelude.{Option, None, Some, is_some}
 
 -- ---- the place of a customer and key
 -- none of the first i entries has them
@@ -29,9 +30,10 @@ module _ (r : Register) (e : Entry) where
   pub missed_more : (i : ℕ) → Missed r e i → same_key (entry_at r i) e ≡ false → Missed r e (i + 1)
   missed_more i m f = any-more (λ j. same_key (entry_at r j) e) i m f
 
-  -- by its word
-  pub missed-word : (i v w : ℕ) → v ≡ word_of (entry_at r i) → w ≡ word_of e → (v ≡ w → ⊥) → Missed r e i → Missed r e (i + 1)
-  missed-word i v w a b f m = missed_more i m (word-apart (entry_at r i) e (λ s. f (a ∙ s ∙ sym b)))
+-- a place is found where one of the first n entries has them
+pub place-some : (r : Register) (n : ℕ) (e : Entry) (p : Option ℕ) → PlaceOf r n e p → is_some p ≡ any_to (λ j. same_key (entry_at r j) e) n
+place-some r n e None h = sym h
+place-some r n e (Some at) h = sym (any_found (λ j. same_key (entry_at r j) e) n at h.0 h.1)
 
 -- ---- no customer and key twice
 -- none of the first i entries is repeated, and the remainders of their words were met
@@ -68,6 +70,5 @@ module _ (r : Register) (met : List ℕ) where
             absurd (q (ap (λ (k : ℕ). word_of (entry_at r k) % 16384) s ∙ ap (λ (v : ℕ). v % 16384) (sym e)))
 
 -- an entry that is repeated
-pub repeated-fails : (r : Register) (n i at : ℕ) → i < n → at < i → PlaceOf r i (entry_at r i) at → false ≡ all_to (λ j. not (repeated r j)) n
-repeated-fails r n i at h g p =
-    sym (all-fails (λ j. not (repeated r j)) n i h (ap not (any_found (λ j. same_key (entry_at r j) (entry_at r i)) i at g (p.found g))))
+pub repeated_fails : (r : Register) (n i : ℕ) → i < n → repeated r i ≡ true → all_to (λ j. not (repeated r j)) n ≡ false
+repeated_fails r n i h e = all-fails (λ j. not (repeated r j)) n i h (ap not e)

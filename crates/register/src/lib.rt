@@ -1,7 +1,8 @@
 // The register of request keys (document 02, (x)): customers' programs time out and send again, and a retry is billed once.
 //
 // The register holds numbers only, since it lies in a caller's memory and may be read back from a file: nothing in it is
-// trusted before it is tested. All here is by value: `desk` takes the register from where it stands and puts it back.
+// trusted before it is tested. A call takes a register and leaves one by value, and looks at it by reference: `desk` takes it
+// from where it stands and puts it back.
 #![tactic(auto)]
 
 mod lookup;

@@ -7,18 +7,21 @@ use crate::registers::Register;
 use entry::{Entry, same_key};
 
 // The place of an entry's customer and key among the first n, if they are there.
-pub fn place_of(register: &Register, words: &[u32; 512], n: usize, e: Entry, w: u32) -> Option<usize>
+pub fn place_of(
+    register: &Register,
+    words: &[u32; 512],
+    n: usize,
+    e: Entry,
+    w: u32,
+) -> Option<usize>
     requires n_bound { (n ≤ 512) × (e.length ≤ 32) × (w ≡ word_of e) }
     requires short { Short register.now n }
     requires words_of { WordsOf register.now n words.now }
     ensures { PlaceOf register.now n e result }
 {
     for i in 0..n {
-        if words[i] == w {
-            let kept = register.entries[i];
-            if same_key(kept, e) {
-                return Some(i);
-            }
+        if words[i] == w && same_key(register.entries[i], e) {
+            return Some(i);
         }
     }
     None

@@ -13,6 +13,7 @@ pub struct Register {
 }
 
 // A register without entries: all zeros.
+#[tactic(auto, unfolding(crate::specs::Registers::opened))]
 pub fn open_register() -> Register
     ensures { result ≡ opened }
 {

@@ -1,8 +1,9 @@
 // The entry step: what a call is answered, and the register that it leaves.
-ghost use Rattle.std.specs.Prelude.{true, ◌≡◌, ◌≤◌, ◌<◌};
+ghost use Rattle.std.specs.Prelude.{true, ◌≡◌, ◌≤◌, ◌<◌, IfOk};
 ghost use Rattle.kinds.specs.Kinds.{kind_number};
-ghost use Rattle.entry.specs.Entries.{call_of};
-ghost use Rattle.register.specs.Registers.{sound, with_entry, place_due, billed_by, after_by, billed_of, after_of};
+ghost use Rattle.entry.specs.Entries.{call_of, entry_of};
+ghost use Rattle.register.specs.Registers.{sound, with_entry, place_due, due_of, billed_of, after_of};
+ghost use Rattle.register.specs.Steps.{accepted_by, RoomFor};
 ghost use Rattle.register.specs.Looks.{WordsOf};
 
 use crate::lookup::place_of;
@@ -27,61 +28,75 @@ pub struct Step {
     pub billed: Result<Billed, Refusal>,
 }
 
-fn refuse(register: &Register, refusal: Refusal) -> Step
-    ensures { result ≡ record { register = register.now; billed = Err refusal } }
-{
-    Step {
-        register: *register,
-        billed: Err(refusal),
-    }
+// What an accepted call comes to: the same again, or a new key, which is entered and charged.
+#[derive(Clone, Copy)]
+enum Accepted {
+    Again(Sheet),
+    New(Sheet, Entry),
 }
 
 // A register with one entry more, at the place of its count.
-fn with_entry(register: Register, e: Entry) -> Register
-    requires { register.count < 512 }
-    ensures { result ≡ with_entry register e }
+#[tactic(auto, unfolding(crate::specs::Registers::with_entry))]
+fn with_entry(register: &Register, e: Entry) -> Register
+    requires { register.now.count < 512 }
+    ensures { result ≡ with_entry register.now e }
 {
-    let count = register.count;
-    let mut next = register;
-    next.entries[count] = e;
-    next.count = count + 1;
+    let mut next = *register;
+    next.entries[register.count] = e;
+    next.count += 1;
     next
 }
 
 // What becomes of a rated call: the same again, 17, a new key, or 18.
-fn place(register: Register, words: [u32; 512], e: Entry, kind: Kind, sheet: Sheet) -> Step
-    requires is_sound { sound register ≡ true }
-    requires words_of { WordsOf register register.count words }
+#[tactic(auto, using(crate::proofs::Soundness::sound_most, crate::proofs::Soundness::sound_short))]
+fn place(
+    register: &Register,
+    words: &[u32; 512],
+    e: Entry,
+    kind: Kind,
+    sheet: Sheet,
+) -> Result<Accepted, Refusal>
+    requires is_sound { sound register.now ≡ true }
+    requires words_of { WordsOf register.now register.now.count words.now }
     requires length_bound { (e.length ≤ 32) × (e.kind ≡ kind_number kind) }
-    ensures billed { result.billed ≡ billed_by (place_due register e sheet) e.price.0 }
-    ensures register_after { result.register ≡ after_by (place_due register e sheet) register e }
+    ensures accepted { result ≡ accepted_by (place_due register.now e sheet) e }
+    ensures room { IfOk result (RoomFor register.now) }
 {
-    let count = register.count;
-    if let Some(at) = place_of(&register, &words, count, e, word_of(e)) {
-        if same_bands(register.entries[at], e, kind) {
-            return Step {
-                register,
-                billed: Ok(Billed {
-                    sheet,
-                    charged: Fen(0),
-                }),
-            };
-        }
-        return refuse(&register, Refusal::OtherBands);
+    match place_of(register, words, register.count, e, word_of(e)) {
+        Some(at) if same_bands(register.entries[at], e, kind) => Ok(Accepted::Again(sheet)),
+        Some(_) => Err(Refusal::OtherBands),
+        None if register.count < 512 => Ok(Accepted::New(sheet, e)),
+        None => Err(Refusal::RegisterFull),
     }
-    if count < 512 {
-        return Step {
-            register: with_entry(register, e),
-            billed: Ok(Billed {
-                sheet,
-                charged: e.price,
-            }),
-        };
-    }
-    refuse(&register, Refusal::RegisterFull)
 }
 
-// One call: 19, then 11, then all of rating, then 16, 17, 18; else the sheet, and what is charged now.
+// 19, then 11, then all of rating, then 16, then what becomes of a rated call.
+#[tactic(auto, unfolding(crate::specs::Registers::due_of))]
+fn accept(
+    register: &Register,
+    customer: u64,
+    key: &[u8],
+    kind: Kind,
+    set: BandSet,
+    price: Fen,
+) -> Result<Accepted, Refusal>
+    ensures accepted { result ≡ accepted_by (due_of register.now (call_of customer key.now kind set price.0)) (entry_of (call_of customer key.now kind set price.0)) }
+    ensures room { IfOk result (RoomFor register.now) }
+{
+    let words = look(register).ok_or(Refusal::RegisterDamaged)?;
+    if !is_key_of(key) {
+        return Err(Refusal::NotARequest);
+    }
+    let sheet = rate(kind, set)?;
+    if !price.in_range() {
+        return Err(Refusal::PriceRange);
+    }
+    let e = entry_of(customer, key, kind, set, price);
+    place(register, &words, e, kind, sheet)
+}
+
+// One call: the sheet and what is charged now, or the refusal, which leaves the register as it was.
+#[tactic(auto, unfolding(crate::specs::Registers::billed_of, crate::specs::Registers::after_of, entry::specs::Entries::entry_of))]
 pub fn enter(
     register: Register,
     customer: u64,
@@ -93,25 +108,24 @@ pub fn enter(
     ensures billed { result.billed ≡ billed_of register (call_of customer key.now kind set price.0) }
     ensures register_after { result.register ≡ after_of register (call_of customer key.now kind set price.0) }
 {
-    let Some(words) = look(&register) else {
-        return refuse(&register, Refusal::RegisterDamaged);
-    };
-    if !is_key_of(key) {
-        return refuse(&register, Refusal::NotARequest);
-    }
-    match rate(kind, set) {
-        Err(refusal) => refuse(&register, refusal),
-        Ok(sheet) => {
-            if !price.in_range() {
-                return refuse(&register, Refusal::PriceRange);
-            }
-            place(
-                register,
-                words,
-                entry_of(customer, key, kind, set, price),
-                kind,
+    match accept(&register, customer, key, kind, set, price) {
+        Ok(Accepted::New(sheet, e)) => Step {
+            register: with_entry(&register, e),
+            billed: Ok(Billed {
                 sheet,
-            )
-        }
+                charged: e.price,
+            }),
+        },
+        Ok(Accepted::Again(sheet)) => Step {
+            register,
+            billed: Ok(Billed {
+                sheet,
+                charged: Fen(0),
+            }),
+        },
+        Err(refusal) => Step {
+            register,
+            billed: Err(refusal),
+        },
     }
 }

@@ -2,21 +2,19 @@
 -- nothing.
 use mathlib.Core.Path.{sym, ◌∙◌}
 use native.Mathlib.Omega.{arith}
-use Rattle.register.proofs.Places.{missed-none, missed_more, missed-word}
+use Rattle.entry.proofs.Keys.{word-apart}
+use Rattle.register.proofs.Places.{missed-none, missed_more}
 use Rattle.register.proofs.lookup.place_of.Goals as goal
-use Rattle.register.proofs.lookup.place_of.Goals.{then-words-i+else-same_key, else-words-i}
+use Rattle.register.proofs.lookup.place_of.Goals.{else-words-i-via-then-words-i+else-same_key, else-words-i-via-else-words-i}
 
 pub loop-i-init : goal.loop-i-init
-loop-i-init c = (omega arith, missed-none c.args.register.now c.args.e)
+loop-i-init c = missed-none c.args.register.now c.args.e
 
 pub loop-i-preserved : goal.loop-i-preserved
 loop-i-preserved c =
-    let r = c.args.register.now in
-    let i = c.loop-i.i in
-    let m = c.loop-i.invariant.1 in (
-      omega arith,
-      elim c.if-words-i.branch [
-        | then-words-i+else-same_key w ↦ missed_more r c.args.e i m (sym w.same_key.ensures ∙ w.if-same_key.false)
-        | else-words-i w ↦ missed-word r _ i _ _ (c.requires.words_of i (omega arith)) c.requires.n_bound.2 w.if-words-i.false m
-      ],
-    )
+    let q = c.requires in
+    missed_more c.args.register.now c.args.e c.loop-i.i c.loop-i.invariant (
+    elim c.else-words-i.branch [
+      | else-words-i-via-then-words-i+else-same_key w ↦ sym w.same_key.ensures ∙ w.if-same_key.false
+      | else-words-i-via-else-words-i w ↦ word-apart _ _ (λ s. w.if-words-i.false (q.words_of _ (omega arith) ∙ s ∙ sym q.n_bound.2))
+    ])

@@ -1,6 +1,5 @@
 -- `register::sound::look` meets its contract. The invariant: the entries passed are sound, the words so far are theirs, none of
 -- them is repeated, and the remainders of their words were met. Assumes nothing.
-use Prim.Native.Nat.{◌-◌, ◌≤◌}
 use mathlib.Core.Path.{◌≡◌}
 use mathlib.Core.Bool.{true}
 use Rattle.laws.proofs.Lists.{Agreed}
@@ -12,8 +11,5 @@ use Rattle.register.proofs.sound.look.Given as goal
 
 abbrev pub invariant-loop-i : goal.invariant-loop-i
 invariant-loop-i l =
-    (l.i ≤ l.count) × (all_to (λ j. entry_ok (entry_at l.register j)) l.i ≡ true)
+    (all_to (λ j. entry_ok (entry_at l.register j)) l.i ≡ true)
     × Agreed 0 (λ j. word_of (entry_at l.register j)) 512 l.words l.i × Met l.register l.met l.i
-
-abbrev pub decreases-loop-i : goal.decreases-loop-i
-decreases-loop-i l = l.count - l.i
