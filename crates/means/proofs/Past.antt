@@ -14,15 +14,14 @@ use Rattle.laws.specs.Lists.{listed}
 use Rattle.quantity.specs.Quantities.{band_of, tenths}
 use Rattle.quantity.specs.declared.quantities.BandSet.{BandSet}
 use Rattle.quantity.specs.declared.quantities.Reading.{Reading}
-use Rattle.quantity.specs.declared.refusals.Refusal.TheVariants.{BandCount, BandRange, SpecimenCount}
-use Rattle.measurement.specs.declared.lists.Readings.{Readings}
-use Rattle.measurement.specs.Lists.{weight_of, all_of, refused_list}
+use Rattle.quantity.specs.declared.refusals.Refusal.TheVariants.{BandCount, SpecimenCount}
+use Rattle.measurement.specs.Lists.{weight_of, all_of}
 use Rattle.measurement.proofs.Past.{Alike, all_past}
 use Rattle.laws.specs.Tests.{bit}
 use Rattle.rating.proofs.Theorems.{accepted-same, Stated, past_by}
 use Rattle.means.specs.Means.{mean_of₃}
 use Rattle.means.specs.Sets.{marks_to, mean_at, mark_at, means_of, octaves_of, specimens_by, specimens_of}
-use Rattle.std.specs.Prelude.{None}
+use Rattle.std.specs.Prelude.{Err}
 
 marks-alike : (f g : ℕ → Bool) (n : ℕ) → ((j : ℕ) → j < n → f j ≡ g j) → marks_to f n ≡ marks_to g n
 unfolding marks_to
@@ -63,7 +62,7 @@ module _ (x y : ℕ → ℤ) (p q n step stride places : ℕ) (room : (j : ℕ) 
     len = n;
   }
 
-octaves-other : (s : BandSet) → (s.len ≡ 16 → ⊥) → octaves_of s ≡ refused_list BandCount
+octaves-other : (s : BandSet) → (s.len ≡ 16 → ⊥) → octaves_of s ≡ Err BandCount
 unfolding octaves_of
 octaves-other s f = rw (ne_eqb s.len 16 f)
 
@@ -73,19 +72,16 @@ unfolding octaves_of
 octaves-agreed s t len values marks =
     let m : means_of (band_of s) s.marks 5 3 1 ≡ means_of (band_of t) t.marks 5 3 1 =
     means-alike (band_of s) (band_of t) s.marks t.marks 5 3 1 16 (λ j h. omega arith) values marks in
-    λ i. cond (eqb (len i) 16)
-    (cond (accepted-same s t 16 values i) (record { outcome = None; set = m i }) (refused_list BandRange))
-    (refused_list BandCount)
+    rw (accepted-same s t 16 values, m, len)
 
 pub octaves-past : (s t : BandSet) → Stated s t → octaves_of s ≡ octaves_of t
-octaves-past = past_by octaves_of 16 (refused_list BandCount) octaves-other octaves-agreed
+octaves-past = past_by octaves_of 16 (Err BandCount) octaves-other octaves-agreed
 
 pub specimens-past : (a b : List Reading) (len : ℕ) → Alike a b len → specimens_of a len ≡ specimens_of b len
 unfolding specimens_of
 specimens-past a b len h = go (eqb len 48) refl
   where
     go : (t : Bool) → eqb len 48 ≡ t
-        → cond t (specimens_by (all_of a 48) (all_of a 48).outcome) (refused_list SpecimenCount)
-        ≡ cond t (specimens_by (all_of b 48) (all_of b 48).outcome) (refused_list SpecimenCount)
-    go true e = ap (λ (r : Readings). specimens_by r r.outcome) (all_past a b 48 (subst (Alike a b) (eqb-true len 48 e) h))
+        → cond t (specimens_by (all_of a 48)) (Err SpecimenCount) ≡ cond t (specimens_by (all_of b 48)) (Err SpecimenCount)
+    go true e = ap specimens_by (all_past a b 48 (subst (Alike a b) (eqb-true len 48 e) h))
     go false e = refl

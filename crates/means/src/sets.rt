@@ -1,6 +1,6 @@
 // Means of three: octaves from thirds, and the means of three specimens.
-ghost use Rattle.std.specs.Prelude.{◌≡◌, true, ℕ, ◌+◌, ◌*◌, ◌≤◌, ◌<◌, get_or};
-ghost use Rattle.quantity.specs.Quantities.{in_range, nought};
+ghost use Rattle.std.specs.Prelude.{◌≡◌, true, ℕ, ◌+◌, ◌*◌, ◌≤◌, ◌<◌, length};
+ghost use Rattle.quantity.specs.Quantities.{in_range};
 ghost use Rattle.measurement.specs.Lists.{weight_of};
 ghost use Rattle.laws.specs.Tests.{bit};
 ghost use Rattle.means.specs.Means.{mean_of₃};
@@ -38,13 +38,7 @@ fn marked_of_three(marks: u64, i: usize, stride: usize) -> bool
     requires { i + 2 * stride < 48 }
     ensures { result ≡ marked₃ marks i stride }
 {
-    if marked(marks, i) {
-        return true;
-    }
-    if marked(marks, i + stride) {
-        return true;
-    }
-    marked(marks, i + 2 * stride)
+    marked(marks, i) || marked(marks, i + stride) || marked(marks, i + 2 * stride)
 }
 
 // What a limit value adds to the marks at place j.
@@ -52,32 +46,27 @@ fn weight(limit: bool, j: usize) -> u16
     requires { j < 16 }
     ensures { result ≡ weight_of limit j }
 {
-    if limit { 1 << j } else { 0 }
+    u16::from(limit) << j
 }
 
 // The means of three values each, `count` of them: mean j is of the values at j * step, and one and two strides further.
-fn means(
-    values: [Tenths; 48],
-    marks: u64,
-    count: usize,
-    step: usize,
-    stride: usize,
-    tables: &MeanTables,
-) -> BandSet
-    requires count_bound { count ≤ 16 }
-    requires in_bounds { (j : ℕ) → j < count → j * step + 2 * stride < 48 }
-    requires ranged { (i : ℕ) → i < 48 → in_range (placed values i) ≡ true }
-    ensures { result ≡ means_of (placed values) marks count step stride }
+fn means(values: &[Tenths], marks: u64, count: usize, step: usize, stride: usize) -> BandSet
+    requires count_bound { (count ≤ 16) × (length values.now ≤ 48) }
+    requires in_bounds { (j : ℕ) → j < count → j * step + 2 * stride < length values.now }
+    requires ranged { (i : ℕ) → i < length values.now → in_range (placed values.now i) ≡ true }
+    ensures { result ≡ means_of (placed values.now) marks count step stride }
 {
+    let tables = mean_tables();
     let mut out = [Tenths(0); 16];
     let mut limits = 0u16;
     for j in 0..count {
         let i = j * step;
-        let x = values[i];
-        let y = values[i + stride];
-        let z = values[i + 2 * stride];
-        let value = mean(x, y, z, tables);
-        out[j] = value;
+        out[j] = mean(
+            values[i],
+            values[i + stride],
+            values[i + 2 * stride],
+            &tables,
+        );
         limits += weight(marked_of_three(marks, i, stride), j);
     }
     BandSet {
@@ -87,20 +76,8 @@ fn means(
     }
 }
 
-// The sixteen values, with zeros after them.
-fn widened(values: [Tenths; 16]) -> [Tenths; 48]
-    ensures kept { (i : ℕ) → get_or result i nought ≡ get_or values i nought }
-    ensures rest { (i : ℕ) → 16 ≤ i → get_or result i nought ≡ nought }
-{
-    let mut out = [Tenths(0); 48];
-    for i in 0..16 {
-        let value = values[i];
-        out[i] = value;
-    }
-    out
-}
-
 // Five octaves from a set of sixteen thirds: 1 where it has another length, then 4 where a band is out of range.
+#[tactic(auto, unfolding(crate::specs::Sets::octaves_of))]
 pub fn octaves(set: BandSet) -> Result<BandSet, Refusal>
     ensures { result ≡ octaves_of set }
 {
@@ -110,13 +87,13 @@ pub fn octaves(set: BandSet) -> Result<BandSet, Refusal>
     if !all_in_range(set, A3Kind::BANDS) {
         return Err(Refusal::BandRange);
     }
-    let values = widened(set.values);
-    let tables = mean_tables();
-    Ok(means(values, set.marks as u64, A1Kind::BANDS, 3, 1, &tables))
+    let means = means(&set.values, u64::from(set.marks), A1Kind::BANDS, 3, 1);
+    Ok(means)
 }
 
 // The sixteen means of three specimens, given as 48 readings one specimen after the other: 12 where `len` is another number,
 // then the refusal of the first reading that is refused.
+#[tactic(auto, unfolding(crate::specs::Sets::specimens_of))]
 pub fn specimens(readings: [Reading; 48], len: usize) -> Result<BandSet, Refusal>
     ensures { result ≡ specimens_of readings len }
 {
@@ -124,13 +101,6 @@ pub fn specimens(readings: [Reading; 48], len: usize) -> Result<BandSet, Refusal
         return Err(Refusal::SpecimenCount);
     }
     let all = take_all(readings, READINGS)?;
-    let tables = mean_tables();
-    Ok(means(
-        all.values,
-        all.marks,
-        A3Kind::BANDS,
-        1,
-        A3Kind::BANDS,
-        &tables,
-    ))
+    let means = means(&all.values, all.marks, A3Kind::BANDS, 1, A3Kind::BANDS);
+    Ok(means)
 }

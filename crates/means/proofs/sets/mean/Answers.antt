@@ -10,24 +10,24 @@ use Rattle.means.proofs.sets.mean.Goals as goal
 use Rattle.means.proofs.sets.mean.Goals.{After-above-3}
 
 pub above-requires : goal.above-requires
-above-requires c = band-asks _ 200 c.requires.ranged.0 (omega arith) (omega arith)
+above-requires c = band-asks _ 200 c.requires.0 (omega arith) (omega arith)
 
 pub above-requires-2 : goal.above-requires-2
-above-requires-2 c = band-asks _ 200 c.requires.ranged.1 (omega arith) (omega arith)
+above-requires-2 c = band-asks _ 200 c.requires.1 (omega arith) (omega arith)
 
 pub above-requires-3 : goal.above-requires-3
-above-requires-3 c = band-asks _ 200 c.requires.ranged.2 (omega arith) (omega arith)
+above-requires-3 c = band-asks _ 200 c.requires.2 (omega arith) (omega arith)
 
 counted : (c : After-above-3) → let a = c.args in
     Band 200 a.x.0 c.above.result × Band 200 a.y.0 c.above-2.result × Band 200 a.z.0 c.above-3.result
 counted c = (
-  band-gives _ 200 _ c.requires.ranged.0 (omega arith) (omega arith) c.above.ensures,
-  band-gives _ 200 _ c.requires.ranged.1 (omega arith) (omega arith) c.above-2.ensures,
-  band-gives _ 200 _ c.requires.ranged.2 (omega arith) (omega arith) c.above-3.ensures,
+  band-gives _ 200 _ c.requires.0 (omega arith) (omega arith) c.above.ensures,
+  band-gives _ 200 _ c.requires.1 (omega arith) (omega arith) c.above-2.ensures,
+  band-gives _ 200 _ c.requires.2 (omega arith) (omega arith) c.above-3.ensures,
 )
 
 pub mean_of_three-counted-requires : goal.mean_of_three-counted-requires
-mean_of_three-counted-requires c = let w = counted c in record { x_bound = omega (arith, w.0.most, w.1.most, w.2.most); mean_tabled = c.requires.mean_tabled }
+mean_of_three-counted-requires c = let w = counted c in omega (arith, w.0.most, w.1.most, w.2.most)
 
 pub less-requires : goal.less-requires
 less-requires c =
