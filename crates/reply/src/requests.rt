@@ -20,28 +20,28 @@ pub struct Reply {
 }
 
 // What a request is answered: 1 where the number of bands is not the kind's, then the first refusal of a band, then its sheet.
+#[tactic(auto, unfolding(rating::specs::Sheets::rated_of))]
 fn judge(kind: Kind, bands: Gathered, tables: RatingTables) -> Result<Sheet, Refusal>
     requires clean { Clean kind bands }
     ensures { result ≡ judged_in kind bands }
 {
-    let count = bands.count;
-    if count != bands_of(kind) {
+    if bands.count != bands_of(kind) {
         return Err(Refusal::BandCount);
     }
-    match bands.fault {
-        Some(refusal) => Err(refusal),
-        None => {
-            let set = BandSet {
-                values: bands.values,
-                marks: bands.marks,
-                len: count,
-            };
-            sheet_of(kind, set, tables)
-        }
+    if let Some(refusal) = bands.fault {
+        return Err(refusal);
     }
+    let values = bands.values;
+    let set = BandSet {
+        values,
+        marks: bands.marks,
+        len: bands.count,
+    };
+    sheet_of(kind, set, tables)
 }
 
 // The key and the bands of a request that starts `at`.
+#[tactic(auto, unfolding(crate::specs::Answers::reply_to, request::specs::Reading::with_key))]
 fn keyed(s: &[u8], at: usize, kind: Kind, tables: RatingTables) -> Option<Reply>
     requires at_in_bounds { at + 2 < length s.now }
     ensures { result ≡ reply_to at (with_key kind s.now (at + 3) (key_span (drop (at + 3) s.now))) }
@@ -52,21 +52,20 @@ fn keyed(s: &[u8], at: usize, kind: Kind, tables: RatingTables) -> Option<Reply>
         return None;
     }
     let bands = bands_at(s, key + len)?;
-    let next = bands.next;
-    if bands.count == 0 || at + 512 < next {
+    if bands.count == 0 || at + 512 < bands.next {
         return None;
     }
-    let rated = judge(kind, bands, tables);
     Some(Reply {
-        next,
+        next: bands.next,
         kind,
         key,
         len,
-        rated,
+        rated: judge(kind, bands, tables),
     })
 }
 
 // The request at a position, with its answer, if one stands there.
+#[tactic(auto, unfolding(crate::specs::Answers::reply_at, crate::specs::Answers::reply_to, request::specs::Reading::request_at))]
 pub fn reply_at(s: &[u8], at: usize, tables: RatingTables) -> Option<Reply>
     ensures { result ≡ reply_at s.now at }
 {
