@@ -17,7 +17,7 @@ fn weight(limit: bool, i: usize) -> u64
     requires { i < 48 }
     ensures { result ≡ weight_of limit i }
 {
-    if limit { 1 << i } else { 0 }
+    u64::from(limit) << i
 }
 
 // The first `count` readings, or the refusal of the first that is refused.
