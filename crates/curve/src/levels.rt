@@ -1,5 +1,5 @@
 // The shared rating over levels: sums, the search for the accepted position, and the sum of energies.
-ghost use Rattle.std.specs.Prelude.{◌≡◌, true, ℕ, ◌≤◌, ◌<◌, get_or};
+ghost use Rattle.std.specs.Prelude.{◌≡◌, true, ℕ, ◌≤◌, ◌<◌, length, get_or};
 ghost use Rattle.laws.specs.Sums.{sum_to};
 ghost use Rattle.quantity.specs.Quantities.{in_range, band_of};
 ghost use Rattle.curve.specs.Bands.{accepted};
@@ -76,13 +76,13 @@ pub fn levels(values: &[i32; 16], bands: usize, airborne: bool, entries: [u32; 1
 
 // The sum of the levels.
 #[tactic(auto, unfolding(laws::specs::Sums::sum_to))]
-pub fn sum(levels: &[u32; 16], bands: usize) -> u32
-    requires bands_bound { bands ≤ 16 }
-    requires each_small { (i : ℕ) → i < bands → at levels.now i < 10000 }
-    ensures { result ≡ sum_to (at levels.now) bands }
+pub fn sum(levels: &[u32]) -> u32
+    requires bands_bound { length levels.now ≤ 16 }
+    requires each_small { (i : ℕ) → i < length levels.now → at levels.now i < 10000 }
+    ensures { result ≡ sum_to (at levels.now) (length levels.now) }
 {
     let mut sum = 0;
-    for level in &levels[..bands] {
+    for level in levels {
         sum += *level;
     }
     sum
@@ -90,28 +90,28 @@ pub fn sum(levels: &[u32; 16], bands: usize) -> u32
 
 // The total of the deficits at position p.
 #[tactic(auto, unfolding(crate::specs::Levels::total_at, laws::specs::Sums::sum_to))]
-pub fn total(levels: &[u32; 16], bands: usize, p: Position) -> u32
-    requires bands_bound { bands ≤ 16 }
+pub fn total(levels: &[u32], p: Position) -> u32
+    requires bands_bound { length levels.now ≤ 16 }
     requires p_bound { p.0 < 500 }
-    ensures { result ≡ total_at (at levels.now) bands p.0 }
+    ensures { result ≡ total_at (at levels.now) (length levels.now) p.0 }
 {
     let height = p.tenths();
     let mut total = 0;
-    for level in &levels[..bands] {
+    for level in levels {
         total += height.saturating_sub(*level);
     }
     total
 }
 
 // From the start, position by position, to the first whose total is within the limit. At position 0 the total is 0.
-pub fn settle(levels: &[u32; 16], bands: usize, limit: u32, start: Position) -> Accepted
-    requires bands_bound { bands ≤ 16 }
+pub fn settle(levels: &[u32], limit: u32, start: Position) -> Accepted
+    requires bands_bound { length levels.now ≤ 16 }
     requires start_bound { start.0 < 500 }
-    ensures { Settled (at levels.now) bands limit start.0 result.at.0 result.shifts }
+    ensures { Settled (at levels.now) (length levels.now) limit start.0 result.at.0 result.shifts }
 {
     let mut p = start;
     let mut shifts = 0;
-    while limit < total(levels, bands, p) {
+    while limit < total(levels, p) {
         p = p.eased();
         shifts += 1;
     }
@@ -120,12 +120,12 @@ pub fn settle(levels: &[u32; 16], bands: usize, limit: u32, start: Position) -> 
 
 // The least level. The walk looks at the first level once more, so that it goes over sixteen and several are looked at at once.
 #[tactic(auto, unfolding(crate::specs::Levels::least_of, crate::specs::Levels::min_to))]
-pub fn least(levels: &[u32; 16], bands: usize) -> u32
-    requires { (1 ≤ bands) × (bands ≤ 16) }
-    ensures { result ≡ least_of (at levels.now) bands }
+pub fn least(levels: &[u32]) -> u32
+    requires { 1 ≤ length levels.now }
+    ensures { result ≡ least_of (at levels.now) (length levels.now) }
 {
     let mut least = levels[0];
-    for level in &levels[..bands] {
+    for level in levels {
         least = least.min(*level);
     }
     least
@@ -133,13 +133,13 @@ pub fn least(levels: &[u32; 16], bands: usize) -> u32
 
 // The sum of the energies of the levels, m the least of them.
 #[tactic(auto, unfolding(crate::specs::Levels::energies_of, laws::specs::Sums::sum_to))]
-pub fn energies(levels: &[u32; 16], bands: usize, m: u32, tables: RatingTables) -> u64
-    requires bands_bound { bands ≤ 16 }
-    requires least { (i : ℕ) → i < bands → m ≤ at levels.now i }
-    ensures { result ≡ energies_of (at levels.now) bands m }
+pub fn energies(levels: &[u32], m: u32, tables: RatingTables) -> u64
+    requires bands_bound { length levels.now ≤ 16 }
+    requires least { (i : ℕ) → i < length levels.now → m ≤ at levels.now i }
+    ensures { result ≡ energies_of (at levels.now) (length levels.now) m }
 {
     let mut sum = 0u64;
-    for level in &levels[..bands] {
+    for level in levels {
         sum += u64::from(tables.energy(*level - m));
     }
     sum

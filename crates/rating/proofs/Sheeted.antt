@@ -5,6 +5,8 @@ use mathlib.Core.Bool.{Bool, true, false}
 use mathlib.Core.List.{List}
 use Prim.Native.Nat.{ℕ, ◌+◌, ◌*◌, ◌/◌, ◌≤◌, ◌<◌}
 use native.Mathlib.Omega.{arith}
+use lib.ListN.{length, take}
+use Rattle.std.proofs.lemmas.List.{get_or-take, length-take-le}
 use lib.IntN.{ℤ, pos, ◌-ℤ◌, ◌*ℤ◌}
 use Rattle.laws.specs.Parts.{P, N}
 use Rattle.laws.proofs.Ints.{minus, apart, times-P, times-N}
@@ -19,7 +21,7 @@ use Rattle.energy.specs.Energies.{u, Summed}
 use Rattle.curve.specs.Levels.{at, plain_at, Ranged, level_by, level_at, Levels, Entries, Count}
 use Rattle.curve.proofs.Counted.{PartsOf, counted, level-parts}
 use Rattle.laws.proofs.Counted.{Up}
-use Rattle.curve.proofs.Searched.{band-in, count_most, count-some, levels-most, least-below, energies-bounds, settled-alike}
+use Rattle.curve.proofs.Searched.{band-in, count_most, count-some, level-at-most, least-below, energies-bounds, settled-alike}
 use Rattle.kinds.specs.declared.kinds.Kind.{Kind}
 use Rattle.kinds.specs.declared.kinds.Numbers.{Numbers}
 use Rattle.kinds.specs.Kinds.{airborne, bands_of, limit_of, C, Ctr}
@@ -122,59 +124,68 @@ pub record Fetched (k : Kind) (s : BandSet) (values : List ℤ) (m : Numbers) : 
   pub numbers : m ≡ numbers_of k
   pub plain : (i : ℕ) → i < 16 → plain_at values i ≡ band_of s i
 
+-- and levels that are lent: those of the set's bands, and no more
+pub record Lent (k : Kind) (s : BandSet) (entries lent : List ℕ) : Type 0 where
+  pub count : length lent ≡ bands_of k
+  pub each : (i : ℕ) → i < bands_of k → at lent i ≡ level_at (airborne k) s entries i
+
 module _ {k : Kind} {s : BandSet} {values : List ℤ} {m : Numbers} (f : Fetched k s values m) where
   pub ranged : Ranged values (bands_of k)
   ranged i h = ap in_range (f.plain i (omega (arith, most k s f.acc))) ∙ band-in s (bands_of k) f.acc i h
 
-  pub count : Count m.bands
-  unfolding numbers_of
-  count = subst (λ (n : Numbers). Count n.bands) (sym f.numbers) (count-of k)
-
   near : m.origin.0 < 200
   near = subst (λ (n : Numbers). n.origin.0 < 200) (sym f.numbers) (sound-of k).near
 
-  module _ {entries levels : List ℕ} (l : Levels (airborne k) (plain_at values) entries (bands_of k) levels) where
-    -- levels counted from the plain values are the set's
-    of-set : Levels (airborne k) (band_of s) entries (bands_of k) levels
-    of-set = record {
-      whole = l.whole;
-      each = λ i h. l.each i h ∙ ap (λ (x : ℤ). level_by (airborne k) x (at entries i)) (f.plain i (omega (arith, most k s f.acc)));
-    }
+  -- of the levels counted from the plain values, those lent are the set's
+  pub lent-by : {entries levels : List ℕ} → Levels (airborne k) (plain_at values) entries (bands_of k) levels
+      → Lent k s entries (take m.bands levels)
+  lent-by {entries} {levels} l =
+      let e : m.bands ≡ bands_of k = bands-are k m f.numbers in record {
+        count = rw e (length-take-le (bands_of k) levels (omega (arith, l.whole, most k s f.acc)));
+        each = λ i h. get_or-take m.bands levels i 0 (omega arith) ∙ l.each i h
+            ∙ ap (λ (x : ℤ). level_by (airborne k) x (at entries i)) (f.plain i (omega (arith, most k s f.acc)));
+      }
 
-    -- the levels found by fitting entries are small, and so is what is weighed of them
-    pub low : ((i : ℕ) → i < 16 → Entries (airborne k) (at entries i)) → (i : ℕ) → i < m.bands → at levels i ≤ 4500
+  module _ {entries lent : List ℕ} (l : Lent k s entries lent) where
+    pub counted-bands : Count (length lent)
+    counted-bands = subst Count (sym l.count) (count-of k)
+
+    -- levels by fitting entries are small, and so is what is weighed of them
+    pub low : ((i : ℕ) → i < 16 → Entries (airborne k) (at entries i)) → (i : ℕ) → i < length lent → at lent i ≤ 4500
     low fits i h =
-        levels-most (airborne k) s entries (bands_of k) (most k s f.acc) f.acc fits levels of-set i (omega (arith, h, bands-are k m f.numbers))
+        let q : i < bands_of k = omega (arith, l.count) in
+        omega (arith, l.each i q, level-at-most (airborne k) s entries (bands_of k) (most k s f.acc) f.acc fits i q)
 
-    pub weighed : ((i : ℕ) → i < 16 → Entries (airborne k) (at entries i)) → {least sum : ℕ} → WeighedOf (at levels) m.bands least sum
+    pub weighed : ((i : ℕ) → i < 16 → Entries (airborne k) (at entries i)) → {least sum : ℕ} → WeighedOf (at lent) (length lent) least sum
         → Summed sum × (least < 5000)
     weighed fits w =
-        let some : 1 ≤ m.bands = count-some count in
-        let b = energies-bounds (at levels) m.bands count in (
+        let some : 1 ≤ length lent = count-some counted-bands in
+        let b = energies-bounds (at lent) (length lent) counted-bands in (
           (omega (arith, w.sum_is, b.0), omega (arith, w.sum_is, b.1)),
-          omega (arith, w.least-is, least-below (at levels) m.bands 0 some, low fits 0 some),
+          omega (arith, w.least-is, least-below (at lent) (length lent) 0 some, low fits 0 some),
         )
 
     -- a term by what is weighed is the set's
-    pub term-by : (p : ℕ) {least sum : ℕ} {d : ℤ} → WeighedOf (at levels) m.bands least sum
+    pub term-by : (p : ℕ) {least sum : ℕ} {d : ℤ} → WeighedOf (at lent) (length lent) least sum
         → d ≡ half_even (term_by m.airborne m.origin.0 least (u sum) p)
-        → d ≡ half_even (term_of m.airborne m.origin.0 (level_at (airborne k) s entries) m.bands p)
-    term-by p w d =
+        → d ≡ half_even (term_of m.airborne m.origin.0 (level_at (airborne k) s entries) (bands_of k) p)
+    term-by p {least} {sum} w d =
+        let v : WeighedOf (at lent) (bands_of k) least sum = subst (λ (n : ℕ). WeighedOf (at lent) n least sum) l.count w in
         d
-        ∙ ap₂ (λ (least sum : ℕ). half_even (term_by m.airborne m.origin.0 least (u sum) p)) w.least-is w.sum_is
-        ∙ ap half_even (term-alike m.airborne m.origin.0 (at levels) (level_at (airborne k) s entries) m.bands p (count-some count)
-        (λ i h. of-set.each i (omega (arith, h, bands-are k m f.numbers))))
+        ∙ ap₂ (λ (least sum : ℕ). half_even (term_by m.airborne m.origin.0 least (u sum) p)) v.least-is v.sum_is
+        ∙ ap half_even (term-alike m.airborne m.origin.0 (at lent) (level_at (airborne k) s entries) (bands_of k) p (some k s f.acc) l.each)
 
   -- what the search finds by the levels of the reference curve, it finds of the set
-  pub sought-by : {levels : List ℕ} {p shifts : ℕ} → Levels (airborne k) (plain_at values) (entries_of k) (bands_of k) levels
-      → SoughtBy k (at levels) m.bands m.limit p shifts → Sought k s p shifts
+  pub sought-by : {lent : List ℕ} {p shifts : ℕ} → Lent k s (entries_of k) lent
+      → SoughtBy k (at lent) (length lent) m.limit p shifts → Sought k s p shifts
   unfolding numbers_of
-  sought-by {levels} {p} {shifts} l w =
+  sought-by {lent} {p} {shifts} l w =
       let g : ℕ → ℕ = level_at (airborne k) s (entries_of k) in
-      let same : (i : ℕ) → i < bands_of k → at levels i ≡ g i = (of-set l).each in
-      settled-alike (at levels) g (bands_of k) (limit_of k) _ _ p shifts same
-      (ap (λ (t : ℕ). (t + start_add k) / (10 * bands_of k)) (sum_same (at levels) g (bands_of k) same))
-      (subst (λ (n : Numbers). SoughtBy k (at levels) n.bands n.limit p shifts) f.numbers w)
+      let v : SoughtBy k (at lent) (bands_of k) (limit_of k) p shifts =
+      subst (λ (n : ℕ). SoughtBy k (at lent) n (limit_of k) p shifts) l.count
+      (subst (λ (n : Numbers). SoughtBy k (at lent) (length lent) n.limit p shifts) f.numbers w) in
+      settled-alike (at lent) g (bands_of k) (limit_of k) _ _ p shifts l.each
+      (ap (λ (t : ℕ). (t + start_add k) / (10 * bands_of k)) (sum_same (at lent) g (bands_of k) l.each)) v
 
   module _ {p shifts : ℕ} (found : Sought k s p shifts) where
     -- what is asked of the position found and of the origin, wherever both go
@@ -190,13 +201,13 @@ module _ {k : Kind} {s : BandSet} {values : List ℤ} {m : Numbers} (f : Fetched
 -- the second term: given for airborne, absent for impact
 pub data SecondAt (k : Kind) (m : Numbers) (s : BandSet) (p : ℕ) : Option Decibels → Type 0 where
   given : (d : Decibels) → m.airborne ≡ true
-      → d.0 ≡ half_even (term_of m.airborne m.origin.0 (level_at (airborne k) s (second_of k)) m.bands p)
+      → d.0 ≡ half_even (term_of m.airborne m.origin.0 (level_at (airborne k) s (second_of k)) (bands_of k) p)
       → SecondAt k m s p (Some d)
   absent : m.airborne ≡ false → SecondAt k m s p None
 
 pub record MadeAt (k : Kind) (s : BandSet) (p : ℕ) (r : Sheet) (m : Numbers) : Type 0 where
   pub rating : r.rating.0 ≡ rating_by m.airborne m.origin.0 p
-  pub first : r.first.0 ≡ half_even (term_of m.airborne m.origin.0 (level_at (airborne k) s (first_of k)) m.bands p)
+  pub first : r.first.0 ≡ half_even (term_of m.airborne m.origin.0 (level_at (airborne k) s (first_of k)) (bands_of k) p)
   pub second : SecondAt k m s p r.second
 
 second_is : (k : Kind) (s : BandSet) → accepted s (bands_of k) ≡ true → (p : ℕ) → rating_of k (band_of s) ≡ rating_by (airborne k) (rating_at k) p

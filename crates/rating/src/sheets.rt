@@ -1,5 +1,5 @@
 // The sheet of a band set: one path for all kinds, by the numbers of the kind.
-ghost use Rattle.std.specs.Prelude.{◌≡◌, true, ℕ, ◌≤◌, ◌<◌};
+ghost use Rattle.std.specs.Prelude.{◌≡◌, true, ℕ, ◌≤◌, ◌<◌, length};
 ghost use Rattle.energy.specs.Energies.{u, Summed};
 ghost use Rattle.quantity.specs.Quantities.{half_even, band_of};
 ghost use Rattle.curve.specs.Bands.{accepted};
@@ -35,22 +35,22 @@ struct Weighed {
 }
 
 // The accepted position by the levels of a kind's bands, with the shifts from its start.
-fn sought(kind: Kind, levels: &[u32; 16], bands: usize, limit: u32) -> Accepted
-    requires bands_of_kind { bands ≡ bands_of kind }
-    requires each_small { (i : ℕ) → i < bands → at levels.now i ≤ 4500 }
-    ensures { SoughtBy kind (at levels.now) bands limit result.at.0 result.shifts }
+fn sought(kind: Kind, levels: &[u32], limit: u32) -> Accepted
+    requires bands_of_kind { length levels.now ≡ bands_of kind }
+    requires each_small { (i : ℕ) → i < length levels.now → at levels.now i ≤ 4500 }
+    ensures { SoughtBy kind (at levels.now) (length levels.now) limit result.at.0 result.shifts }
 {
-    let start = start_of(kind, sum(levels, bands));
-    settle(levels, bands, limit, start)
+    let start = start_of(kind, sum(levels));
+    settle(levels, limit, start)
 }
 
 // The least of the levels by one spectrum, and the sum of their energies.
-fn weigh(levels: &[u32; 16], bands: usize, tables: RatingTables) -> Weighed
-    requires count { Count bands }
-    ensures { WeighedOf (at levels.now) bands result.least result.sum }
+fn weigh(levels: &[u32], tables: RatingTables) -> Weighed
+    requires count { Count (length levels.now) }
+    ensures { WeighedOf (at levels.now) (length levels.now) result.least result.sum }
 {
-    let least = least(levels, bands);
-    let sum = energies(levels, bands, least, tables);
+    let least = least(levels);
+    let sum = energies(levels, least, tables);
     Weighed { least, sum }
 }
 
@@ -91,6 +91,7 @@ fn term_of(n: &Numbers, p: Position, w: Weighed, tables: RatingTables) -> Decibe
 
 // The sheet of an accepted set, with the tables lent: whoever rates many sets lays them out once. It is handed on as the answer
 // that it is: a sheet by itself would be copied into one.
+#[tactic(auto, using(crate::proofs::RatedLaws::bands_most, std::proofs::lemmas::Grind::common_steps))]
 pub fn sheet_of(kind: Kind, set: BandSet, tables: RatingTables) -> Result<Sheet, Refusal>
     requires set_accepted { accepted set (bands_of kind) ≡ true }
     ensures { result ≡ Ok (sheet_of kind set) }
@@ -99,13 +100,13 @@ pub fn sheet_of(kind: Kind, set: BandSet, tables: RatingTables) -> Result<Sheet,
     let values = plain(set);
     let by_curve = by_curve(kind, &values);
     let by_first = by_first(kind, &values);
-    let accepted = sought(kind, &by_curve, n.bands, n.limit);
+    let accepted = sought(kind, &by_curve[..n.bands], n.limit);
     let p = accepted.at;
-    let one = weigh(&by_first, n.bands, tables);
+    let one = weigh(&by_first[..n.bands], tables);
     // both are weighed before either step is looked up, so that neither waits for the other
     let second = if n.airborne {
         let by_second = by_second(kind, &values);
-        let other = weigh(&by_second, n.bands, tables);
+        let other = weigh(&by_second[..n.bands], tables);
         Some(term_of(&n, p, other, tables))
     } else {
         None
@@ -135,6 +136,7 @@ fn accept(kind: Kind, set: BandSet) -> Result<(), Refusal>
 }
 
 // The rating of an accepted set, without its terms.
+#[tactic(auto, using(crate::proofs::RatedLaws::bands_most, std::proofs::lemmas::Grind::common_steps))]
 fn rating_of(kind: Kind, set: BandSet) -> Decibels
     requires { accepted set (bands_of kind) ≡ true }
     ensures { result.0 ≡ rating_of kind (band_of set) }
@@ -142,7 +144,7 @@ fn rating_of(kind: Kind, set: BandSet) -> Decibels
     let n = numbers_of(kind);
     let values = plain(set);
     let by_curve = by_curve(kind, &values);
-    let accepted = sought(kind, &by_curve, n.bands, n.limit);
+    let accepted = sought(kind, &by_curve[..n.bands], n.limit);
     rating_at(&n, accepted.at)
 }
 

@@ -1,8 +1,7 @@
 -- `rating::sheets::rating_of` meets its contract: the position found by the levels of the set is the rating's. Assumes nothing.
 use Rattle.kinds.proofs.Facts.{entries_fit}
 use Rattle.rating.specs.Found.{Sought}
-use Rattle.rating.proofs.RatedLaws.{bands-are}
-use Rattle.rating.proofs.Sheeted.{Fetched, ranged, low, sought-by, bounds, rating-made}
+use Rattle.rating.proofs.Sheeted.{Fetched, ranged, lent-by, low, sought-by, bounds, rating-made}
 use Rattle.rating.proofs.sheets.rating_of.Goals as goal
 use Rattle.rating.proofs.sheets.rating_of.Goals.{After-plain-values, After-sought-accepted}
 
@@ -14,15 +13,14 @@ by_curve-by_curve-requires c = ranged (fetched (goal.at.by_curve-by_curve-requir
 
 pub sought-accepted-requires : goal.sought-accepted-requires
 sought-accepted-requires c =
-    let f = fetched (goal.at.sought-accepted-requires c).After-plain-values in record {
-      bands_of_kind = bands-are _ _ f.numbers;
-      each_small = low f c.by_curve-by_curve.ensures (entries_fit c.args.kind);
-    }
+    let f = fetched (goal.at.sought-accepted-requires c).After-plain-values in
+    let l = lent-by f c.by_curve-by_curve.ensures in
+    record { bands_of_kind = l.count; each_small = low f l (entries_fit c.args.kind) }
 
 -- what the search found of the set
 found : (c : After-sought-accepted) → Fetched c.args.kind c.args.set c.plain-values.result c.numbers_of-n.result
     → Sought c.args.kind c.args.set c.sought-accepted.result.at.0 c.sought-accepted.result.shifts
-found c f = sought-by f c.by_curve-by_curve.ensures c.sought-accepted.ensures
+found c f = sought-by f (lent-by f c.by_curve-by_curve.ensures) c.sought-accepted.ensures
 
 pub rating_at-requires : goal.rating_at-requires
 rating_at-requires c =

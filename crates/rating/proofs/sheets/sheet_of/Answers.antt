@@ -3,8 +3,7 @@
 use mathlib.Core.Path.{ap}
 use Rattle.kinds.proofs.Facts.{entries_fit, first-fit, second-fit}
 use Rattle.rating.specs.Found.{Sought}
-use Rattle.rating.proofs.RatedLaws.{bands-are}
-use Rattle.rating.proofs.Sheeted.{Fetched, ranged, count, low, weighed, term-by, sought-by, bounds, SecondAt, given, absent, sheet-made}
+use Rattle.rating.proofs.Sheeted.{Fetched, ranged, lent-by, counted-bands, low, weighed, term-by, sought-by, bounds, SecondAt, given, absent, sheet-made}
 use Rattle.rating.proofs.sheets.sheet_of.Goals as goal
 use Rattle.rating.proofs.sheets.sheet_of.Goals.{After-plain-values, After-sought-accepted, After-weigh-one, After-weigh-other, After-marked, then-n, else-n}
 use Rattle.std.specs.Prelude.{Ok}
@@ -25,14 +24,13 @@ by_second-by_second-requires c = ranged (fetched (goal.at.by_second-by_second-re
 -- ---- the position
 pub sought-accepted-requires : goal.sought-accepted-requires
 sought-accepted-requires c =
-    let f = fetched (goal.at.sought-accepted-requires c).After-plain-values in record {
-      bands_of_kind = bands-are _ _ f.numbers;
-      each_small = low f c.by_curve-by_curve.ensures (entries_fit c.args.kind);
-    }
+    let f = fetched (goal.at.sought-accepted-requires c).After-plain-values in
+    let l = lent-by f c.by_curve-by_curve.ensures in
+    record { bands_of_kind = l.count; each_small = low f l (entries_fit c.args.kind) }
 
 sought : (c : After-sought-accepted) → Fetched c.args.kind c.args.set c.plain-values.result c.numbers_of-n.result
     → Sought c.args.kind c.args.set c.sought-accepted.result.at.0 c.sought-accepted.result.shifts
-sought c f = sought-by f c.by_curve-by_curve.ensures c.sought-accepted.ensures
+sought c f = sought-by f (lent-by f c.by_curve-by_curve.ensures) c.sought-accepted.ensures
 
 pub rating_at-requires : goal.rating_at-requires
 rating_at-requires c =
@@ -41,16 +39,20 @@ rating_at-requires c =
 
 -- ---- the terms
 pub weigh-one-requires : goal.weigh-one-requires
-weigh-one-requires c = record { count = count (fetched (goal.at.weigh-one-requires c).After-plain-values) }
+weigh-one-requires c =
+    let f = fetched (goal.at.weigh-one-requires c).After-plain-values in
+    record { count = counted-bands f (lent-by f c.by_first-by_first.ensures) }
 
 pub weigh-other-requires : goal.weigh-other-requires
-weigh-other-requires c = record { count = count (fetched (goal.at.weigh-other-requires c).After-plain-values) }
+weigh-other-requires c =
+    let f = fetched (goal.at.weigh-other-requires c).After-plain-values in
+    record { count = counted-bands f (lent-by f c.by_second-by_second.ensures) }
 
 pub term_of-requires : goal.term_of-requires
 term_of-requires c =
     let w = goal.at.term_of-requires c in
     let f = fetched w.After-plain-values in
-    let other = weighed f c.by_second-by_second.ensures (second-fit c.args.kind) c.weigh-other.ensures in
+    let other = weighed f (lent-by f c.by_second-by_second.ensures) (second-fit c.args.kind) c.weigh-other.ensures in
     let b = bounds f (sought w.After-sought-accepted f) in
     record { summed = other.0; bounds = (b.0, b.1, other.1) }
 
@@ -58,7 +60,7 @@ pub term_of-requires-2 : goal.term_of-requires-2
 term_of-requires-2 c =
     let w = goal.at.term_of-requires-2 c in
     let f = fetched w.After-plain-values in
-    let one = weighed f c.by_first-by_first.ensures (first-fit c.args.kind) c.weigh-one.ensures in
+    let one = weighed f (lent-by f c.by_first-by_first.ensures) (first-fit c.args.kind) c.weigh-one.ensures in
     let b = bounds f (sought w.After-sought-accepted f) in
     record { summed = one.0; bounds = (b.0, b.1, one.1) }
 
@@ -68,7 +70,7 @@ second : (c : After-marked) → Fetched c.args.kind c.args.set c.plain-values.re
 second c f =
     elim c.if-n.branch [
       | then-n w ↦ rw w.second-is
-          (given w.term_of.result w.if-n.true (term-by f w.by_second-by_second.ensures _ w.weigh-other.ensures w.term_of.ensures))
+          (given w.term_of.result w.if-n.true (term-by f (lent-by f w.by_second-by_second.ensures) _ w.weigh-other.ensures w.term_of.ensures))
       | else-n w ↦ rw w.second-is (absent w.if-n.false)
     ]
 
@@ -80,6 +82,6 @@ returns c =
     (sheet-made f c.sought-accepted.result.at.0 _ (sought w.After-sought-accepted f) c.marked.ensures
     (record {
       rating = c.rating_at.ensures;
-      first = term-by f c.by_first-by_first.ensures _ c.weigh-one.ensures c.term_of-2.ensures;
+      first = term-by f (lent-by f c.by_first-by_first.ensures) _ c.weigh-one.ensures c.term_of-2.ensures;
       second = second w.After-marked f;
     }))

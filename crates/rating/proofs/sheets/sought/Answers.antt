@@ -3,6 +3,7 @@
 use mathlib.Core.Path.{subst}
 use Prim.Native.Nat.{ℕ, ◌*◌, ◌≤◌}
 use native.Mathlib.Omega.{arith}
+use lib.ListN.{length}
 use Rattle.laws.proofs.Sums.{sum_bound}
 use Rattle.curve.specs.Levels.{at}
 use Rattle.curve.proofs.Searched.{count_most, start_small}
@@ -12,14 +13,14 @@ use Rattle.kinds.proofs.Facts.{count-of, add_small}
 use Rattle.rating.proofs.sheets.sought.Goals as goal
 use Rattle.rating.proofs.sheets.sought.Goals.{Start, After-sum}
 
-most : (s : Start) → s.args.bands ≤ 16
+most : (s : Start) → length s.args.levels.now ≤ 16
 most s = rw s.requires.bands_of_kind (count_most (count-of s.args.kind))
 
 -- the sum stays small
 small : (c : After-sum) → c.sum.result ≤ bands_of c.args.kind * 4500
 small c =
     subst (λ (n : ℕ). c.sum.result ≤ n * 4500) c.requires.bands_of_kind
-    (omega (arith, c.sum.ensures, sum_bound (at c.args.levels.now) 4500 c.args.bands c.requires.each_small))
+    (omega (arith, c.sum.ensures, sum_bound (at c.args.levels.now) 4500 (length c.args.levels.now) c.requires.each_small))
 
 pub start_of-start-requires : goal.start_of-start-requires
 start_of-start-requires c = omega (arith, small c, count_most (count-of c.args.kind))
