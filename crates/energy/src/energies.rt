@@ -46,26 +46,34 @@ fn by_hundreds(cells: &[Cell], d: u32) -> u32
     divided(cells[(d % 100) as usize], d / 100)
 }
 
+// F(d), in cells that begin with its numbers: in those for many sets it stands as it is.
+pub fn energy(cells: &[Cell], many: bool, d: u32) -> u32
+    requires { Scaled many cells.now }
+    ensures { result ≡ F d }
+{
+    if !many {
+        return by_hundreds(cells, d);
+    }
+    if 900 < d {
+        return 0;
+    }
+    cells[d as usize]
+}
+
 impl<'a> RatingTables<'a> {
-    // F(d): in the tables for many sets it stands as it is.
+    // F(d).
     pub fn energy(self, d: u32) -> u32
         ensures { result ≡ F d }
     {
-        if !self.many {
-            return by_hundreds(self.cells, d);
-        }
-        if 900 < d {
-            return 0;
-        }
-        self.cells[d as usize]
+        energy(self.cells, self.many, d)
     }
 }
 
-impl MeanTables {
+impl<'a> MeanTables<'a> {
     // F(d).
-    pub(crate) fn energy(&self, d: u32) -> u32
+    pub(crate) fn energy(self, d: u32) -> u32
         ensures { result ≡ F d }
     {
-        by_hundreds(&self.cells, d)
+        by_hundreds(self.cells, d)
     }
 }

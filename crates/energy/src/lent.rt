@@ -30,10 +30,20 @@ impl<'a> RatingTables<'a> {
     }
 }
 
-// The tables for means of three.
-pub struct MeanTables {
-    pub(crate) cells: [Cell; 211],
-    ghost tabled: { MeanTabled cells },
+// The tables for means of three, as they are lent.
+#[derive(Clone, Copy)]
+pub struct MeanTables<'a> {
+    pub(crate) cells: &'a [Cell],
+    ghost tabled: { MeanTabled cells.now },
+}
+
+impl<'a> MeanTables<'a> {
+    // As `mean_tables` lays them out.
+    pub fn of(cells: &'a [Cell]) -> MeanTables<'a>
+        requires { MeanTabled cells.now }
+    {
+        MeanTables { cells }
+    }
 }
 
 // The tables for one set, with the first hundred numbers of F. Where an array is named, it is laid out anew.
@@ -43,9 +53,11 @@ pub fn tables() -> [Cell; 317]
     PARTS
 }
 
-// The tables for means, laid out anew as well.
-pub fn mean_tables() -> MeanTables {
-    MeanTables { cells: MEAN_PARTS }
+// The tables for means of three, laid out anew as well.
+pub fn mean_tables() -> [Cell; 211]
+    ensures { MeanTabled result }
+{
+    MEAN_PARTS
 }
 
 // The tables for many sets, to be made once and lent for each: F whole, each number a tenth of the one a hundred places before,

@@ -12,4 +12,6 @@ mod means;
 mod steps;
 
 pub use corrections::{background, reverberation};
+pub use energies::energy;
 pub use lent::{Cell, MeanTables, RatingTables, mean_tables, tables, tables_of_many};
+pub use steps::level;

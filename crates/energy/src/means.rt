@@ -6,11 +6,11 @@ ghost use Rattle.energy.specs.Tabled.{Summed₃};
 use crate::lent::MeanTables;
 use crate::steps::missed;
 
-impl MeanTables {
+impl<'a> MeanTables<'a> {
     // v(S), for a sum of three: no stretch holds more than two thresholds. Without a branch: which way it goes, nobody could
     // guess.
     #[tactic(auto, using(crate::proofs::Counted::turn_fits))]
-    fn step_of_sum(&self, s: u64) -> u32
+    fn step_of_sum(self, s: u64) -> u32
         requires { Summed₃ s }
         ensures { result ≡ v s }
     {
@@ -21,7 +21,7 @@ impl MeanTables {
     }
 
     // The mean of three values, each counted in tenths from one floor.
-    pub fn mean_of_three(&self, x: u32, y: u32, z: u32) -> u32
+    pub fn mean_of_three(self, x: u32, y: u32, z: u32) -> u32
         requires { (x < 1000000) × (y < 1000000) × (z < 1000000) }
         ensures { result ≡ mean₃ x y z }
     {

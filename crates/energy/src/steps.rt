@@ -1,7 +1,7 @@
 // Numbers of steps by thresholds: how many a sum has reached, told by the start of its stretch and the next thresholds.
 ghost use Rattle.std.specs.Prelude.{◌≡◌, ◌+◌, ◌≤◌, ◌<◌, length};
 ghost use Rattle.energy.specs.Energies.{u, Summed};
-ghost use Rattle.energy.specs.Tabled.{stretch_of, missed_by, missed_at, reach};
+ghost use Rattle.energy.specs.Tabled.{Stepped, stretch_of, missed_by, missed_at, reach};
 
 use crate::lent::{Cell, RatingTables};
 
@@ -44,15 +44,24 @@ fn behind(many: bool) -> usize
     if many { 901 } else { 100 }
 }
 
+// u(S): the tenths that a sum of energies stands above one band alone. No stretch holds more than three thresholds.
+#[tactic(auto, using(crate::proofs::Counted::reach_most, crate::proofs::Starts::stretch_among))]
+pub fn level(cells: &[Cell], many: bool, s: u64) -> u32
+    requires summed { Summed s }
+    requires stepped { Stepped many cells.now }
+    ensures { result ≡ u s }
+{
+    let at = behind(many);
+    let below = cells[at + 123 + stretch(s)];
+    below + 3 - missed_of_three(cells, at + below as usize, s)
+}
+
 impl<'a> RatingTables<'a> {
-    // u(S): the tenths that a sum of energies stands above one band alone. No stretch holds more than three thresholds.
-    #[tactic(auto, using(crate::proofs::Counted::reach_most, crate::proofs::Starts::stretch_among))]
+    // u(S).
     pub fn level(self, s: u64) -> u32
         requires { Summed s }
         ensures { result ≡ u s }
     {
-        let at = behind(self.many);
-        let below = self.cells[at + 123 + stretch(s)];
-        below + 3 - missed_of_three(self.cells, at + below as usize, s)
+        level(self.cells, self.many, s)
     }
 }

@@ -17,7 +17,7 @@ use quantity::{BandSet, Reading, Refusal, Tenths};
 const READINGS: usize = 3 * A3Kind::BANDS;
 
 // The mean of three band values, each counted from -20.0 dB.
-fn mean(x: Tenths, y: Tenths, z: Tenths, tables: &MeanTables) -> Tenths
+fn mean(x: Tenths, y: Tenths, z: Tenths, tables: MeanTables) -> Tenths
     requires { (in_range x.0 ≡ true) × (in_range y.0 ≡ true) × (in_range z.0 ≡ true) }
     ensures { result.0 ≡ mean_of₃ x.0 y.0 z.0 }
 {
@@ -56,7 +56,8 @@ fn means(values: &[Tenths], marks: u64, count: usize, step: usize, stride: usize
     requires ranged { (i : ℕ) → i < length values.now → in_range (placed values.now i) ≡ true }
     ensures { result ≡ means_of (placed values.now) marks count step stride }
 {
-    let tables = mean_tables();
+    let cells = mean_tables();
+    let tables = MeanTables::of(&cells);
     let mut out = [Tenths(0); 16];
     let mut limits = 0u16;
     for j in 0..count {
