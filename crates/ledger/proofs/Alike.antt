@@ -16,7 +16,7 @@ use Rattle.ledger.proofs.Grown.{each_to, entry_old, entry_new}
 use Rattle.ledger.proofs.Histories.{after_is}
 use Rattle.ledger.proofs.Moves.{theirs, closed_is, closed-not}
 use Rattle.ledger.proofs.Rest.{rest, rest_goes, rest-stays, room, without-count, without_at}
-use Rattle.register.proofs.Soundness.{sound-most}
+use Rattle.register.proofs.Soundness.{sound_most}
 use Rattle.ledger.proofs.Sameness.{same-entry, sound-same, due-same}
 use Rattle.register.proofs.Seen.{Seen, seen}
 use Rattle.register.proofs.Seen.Seen.{turned, retried, added}
@@ -95,7 +95,7 @@ module _ (customer : ℕ) (r s : Register) (a : SameRegister r s) where
       go : (b : Bool) → sound r ≡ b → SameRegister (closed_of r customer) (closed_of s customer)
       go true q =
           subst⁻¹ (λ (u : Register). SameRegister u (closed_of s customer)) (closed_is r customer q)
-          (subst⁻¹ (SameRegister (without r customer)) (closed_is s customer (sym (sound-same a) ∙ q)) (without-same (sound-most r q)))
+          (subst⁻¹ (SameRegister (without r customer)) (closed_is s customer (sym (sound-same a) ∙ q)) (without-same (sound_most r q)))
       go false q =
           subst⁻¹ (λ (u : Register). SameRegister u (closed_of s customer)) (closed-not r customer q)
           (subst⁻¹ (SameRegister r) (closed-not s customer (sym (sound-same a) ∙ q)) a)

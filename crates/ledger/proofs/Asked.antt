@@ -44,7 +44,7 @@ use Rattle.register.proofs.Seen.Seen.{turned, retried, added}
 use Rattle.laws.proofs.Ranges.{any_some, Some}
 use Rattle.entry.proofs.Texts.{key-trans, text-made}
 use Rattle.rating.proofs.Small.{rated-by}
-use Rattle.std.specs.Prelude.{Result, Ok, Err, Some}
+use Rattle.std.specs.Prelude.{Result, Ok, Err}
 use Rattle.register.specs.declared.steps.Billed.{Billed}
 use Rattle.quantity.specs.declared.refusals.Refusal.{Refusal}
 
@@ -119,7 +119,7 @@ module _ (x y : Call) where
     where
       kinds : x.kind ≡ y.kind
       kinds =
-          let q : Some x.kind ≡ Some y.kind = sym (kind-of-number x.kind) ∙ ap kind_of o.kind ∙ kind-of-number y.kind in
+          let q = sym (kind-of-number x.kind) ∙ ap kind_of o.kind ∙ kind-of-number y.kind in
           cc
 
       bands : bands_by (kind_of (kind_number x.kind)) ≡ n
@@ -136,12 +136,12 @@ through {d} {e} {f} p q =
     }
 
 -- "same customer and key with another kind or other bands", after any calls in between that do not close the customer
-pub other-bands : (h : Calls) (x : Call) (sheet : Sheet) (now : Fen) → billed_of (left h) x ≡ Ok sheet now
+pub other-bands : (h : Calls) (x : Call) (b : Billed) → billed_of (left h) x ≡ Ok b
     → (more : Calls) → spares x.customer more ≡ true → (y : Call) (other : Sheet)
     → x.customer ≡ y.customer → x.key ≡ y.key → rated_of y.kind y.set ≡ Ok other → priced y.price ≡ true → (Again x y → ⊥)
     → billed_of (left (onward (next h x) more)) y ≡ Err OtherBands
 unfolding held
-other-bands h x sheet now e more spared y other c t rated p f = billed-is s y (placed s y other taken ∙ due-other s (entry_of y) other i.at i.below theirs whole differ)
+other-bands h x b e more spared y other c t rated p f = billed-is s y (placed s y other taken ∙ due-other s (entry_of y) other i.at i.below theirs whole differ)
   where
     s : Register
     s = left (onward (next h x) more)
@@ -149,8 +149,8 @@ other-bands h x sheet now e more spared y other c t rated p f = billed-is s y (p
     whole : sound s ≡ true
     whole = (left_grown (onward (next h x) more)).whole
 
-    first : Taken (left h) x sheet
-    first = taken_of (left h) x sheet now e
+    first : Taken (left h) x b.sheet
+    first = taken_of (left h) x b e
 
     shape : key_shape y.key ≡ true
     shape = ap key_shape (sym t) ∙ first.shape
@@ -160,7 +160,7 @@ other-bands h x sheet now e more spared y other c t rated p f = billed-is s y (p
 
     i : Some (λ j. same_key (entry_at s j) (entry_of x) && same_bands (entry_at s j) (entry_of x)) s.count
     i = any_some (λ j. same_key (entry_at s j) (entry_of x) && same_bands (entry_at s j) (entry_of x)) s.count
-        (held_onward (next h x) (entry_of x) (accepted-held h x sheet now e) more (ap (λ (n : ℕ). spares n more) (customer-kept x) ∙ spared))
+        (held_onward (next h x) (entry_of x) (accepted-held h x b e) more (ap (λ (n : ℕ). spares n more) (customer-kept x) ∙ spared))
 
     ours : (same_key (entry_at s i.at) (entry_of x) ≡ true) × (same_bands (entry_at s i.at) (entry_of x) ≡ true)
     ours = both (same_key (entry_at s i.at) (entry_of x)) (same_bands (entry_at s i.at) (entry_of x)) i.passes
@@ -172,8 +172,8 @@ other-bands h x sheet now e more spared y other c t rated p f = billed-is s y (p
 
     differ : same_bands (entry_at s i.at) (entry_of y) ≡ false
     differ =
-        refuted (same_bands (entry_at s i.at) (entry_of y)) (λ b.
-        f (again-made x y sheet other first.rated rated c t (through (bands-one (entry_at s i.at) (entry_of x) ours.1) (bands-one (entry_at s i.at) (entry_of y) b))))
+        refuted (same_bands (entry_at s i.at) (entry_of y)) (λ w.
+        f (again-made x y b.sheet other first.rated rated c t (through (bands-one (entry_at s i.at) (entry_of x) ours.1) (bands-one (entry_at s i.at) (entry_of y) w))))
 
 -- ---- keys that were not used before
 
@@ -217,7 +217,7 @@ module _ (h : Calls) (x : Call) (sheet : Sheet) (shape : key_shape x.key ≡ tru
   new = sym (used-known h x shape) ∙ fresh
 
   -- "A new key is entered and charged"
-  pub new-charged : keys (told h) < 512 → billed_of (left h) x ≡ Ok sheet (record { 0 = x.price })
+  pub new-charged : keys (told h) < 512 → billed_of (left h) x ≡ Ok (record { sheet = sheet; charged = record { 0 = x.price } })
   new-charged room =
       billed-is (left h) x
       (placed (left h) x sheet taken

@@ -22,7 +22,7 @@ use Rattle.ledger.specs.Histories.{Calls, left}
 use Rattle.ledger.specs.Histories.Calls.{start, next, close}
 use Rattle.ledger.proofs.Grown.{each_to, entry_old, entry_new}
 use Rattle.ledger.proofs.Histories.{left_grown, left-most, after_is}
-use Rattle.ledger.proofs.Moves.{theirs, closed_is, closed-not, others-most}
+use Rattle.ledger.proofs.Moves.{theirs, closed_is, closed-not, others_most}
 use Rattle.ledger.proofs.Rest.{rest, rest-by, room, without-count, without_at}
 use Rattle.register.proofs.Seen.{Seen, seen}
 use Rattle.register.proofs.Seen.Seen.{turned, retried, added}
@@ -120,7 +120,7 @@ module _ (r : Register) (customer : ℕ) (most : r.count ≤ 512) where
   zeros = replicate (r.count - length kept) no_entry
 
   fewer : length kept ≤ r.count
-  fewer = others-most customer r r.count
+  fewer = others_most customer r r.count
 
   past : (i : ℕ) → length kept ≤ i → entry_at s i ≡ get_or (zeros ++ drop r.count r.entries) (i - length kept) past_end
   unfolding without moved_to

@@ -10,7 +10,7 @@ use native.Mathlib.Decide.{ℕ_discrete}
 use native.Mathlib.Omega.{arith}
 use borrow.Author.Tests.{lt-ltb, le-leb}
 use lib.Dec.{eqb}
-use lib.ListN.{length, get_or, take, set, length-set, length-replicate}
+use lib.ListN.{length, get_or, take, length-set, length-replicate}
 use lib.Seq.{get_or-set_same, get_or-set_other, get_or-take, length-take-le, ext_get_or}
 use Rattle.laws.specs.Lists.{listed}
 use Rattle.laws.proofs.Lists.{length-listed, get_or-listed}

@@ -25,15 +25,15 @@ use Rattle.ledger.proofs.Asked.{new-charged, count_left}
 use Rattle.register.proofs.Dues.{due-shape, due-refused, due-price, place-held, place-known, place-free, unknown-held}
 use Rattle.ledger.proofs.Grown.{customer-kept}
 use Rattle.ledger.proofs.Histories.{left-most, left-closed, since-own, billed-is, used-known}
-use Rattle.ledger.proofs.Moves.{theirs, closed_is, closed-not, others-most}
+use Rattle.ledger.proofs.Moves.{theirs, closed_is, closed-not, others_most}
 use Rattle.ledger.proofs.Rest.{without-sound, count-without, known-others, held-others, total-others}
 use Rattle.register.proofs.Seen.{Taken, Why, Seen, seen, placed}
 use Rattle.register.proofs.Seen.Why.{damaged, misshapen, unrated, dear, other, crowded}
 use Rattle.register.proofs.Seen.Seen.{turned, retried, added}
-use Rattle.register.proofs.Soundness.{sound-most}
+use Rattle.register.proofs.Soundness.{sound_most}
 use Rattle.laws.proofs.Ranges.{any_some, Some}
 use Rattle.entry.proofs.Texts.{key-same}
-use Rattle.std.specs.Prelude.{Ok, Err, Some}
+use Rattle.std.specs.Prelude.{Ok, Err}
 
 -- ---- other customers
 
@@ -46,7 +46,7 @@ others-owed r c customer differ = go (sound r) refl
     go true q =
         ap (λ (s : Register). owed_of s customer) (closed_is r c q)
         ∙ ap₂ (λ (b : Bool) (n : ℕ). cond b (Ok (record { 0 = n })) (Err RegisterDamaged)) (without-sound r c q ∙ sym q)
-        (total-others r c (sound-most r q) customer differ)
+        (total-others r c (sound_most r q) customer differ)
     go false q = ap (λ (s : Register). owed_of s customer) (closed-not r c q)
 
 -- so is every answer to their calls, retries and 17 among them; only 18 may become the charge of a new key
@@ -63,14 +63,14 @@ module _ (r : Register) (c : ℕ) (x : Call) (differ : x.customer ≡ c → ⊥)
     after = without r c
 
     knows : known after e ≡ known r e
-    knows = known-others r c (sound-most r q) e apart
+    knows = known-others r c (sound_most r q) e apart
 
     holds : held after e ≡ held r e
-    holds = held-others r c (sound-most r q) e apart
+    holds = held-others r c (sound_most r q) e apart
 
     fewer : after.count ≤ r.count
     unfolding without
-    fewer = others-most c r r.count
+    fewer = others_most c r r.count
 
     still : {sheet : Sheet} → Taken r x sheet → Taken after x sheet
     still t = record { whole = without-sound r c q; shape = t.shape; rated = t.rated; price = t.price }
@@ -138,6 +138,6 @@ freed h x shape inside =
 
 -- so that it is entered and charged again, at its new price
 pub closed-charged : (h : Calls) (x : Call) (sheet : Sheet) → key_shape x.key ≡ true → rated_of x.kind x.set ≡ Ok sheet
-    → priced x.price ≡ true → in_use (told h) x ≡ true → billed_of (left (close h x.customer)) x ≡ Ok sheet (record { 0 = x.price })
+    → priced x.price ≡ true → in_use (told h) x ≡ true → billed_of (left (close h x.customer)) x ≡ Ok (record { sheet = sheet; charged = record { 0 = x.price } })
 closed-charged h x sheet shape rated price inside =
     new-charged (close h x.customer) x sheet shape rated price (closed-new h x) (omega (arith, freed h x shape inside, count_left (close h x.customer)))

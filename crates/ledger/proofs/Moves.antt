@@ -9,16 +9,15 @@ use native.Mathlib.Omega.{arith}
 use lib.Dec.{eqb}
 use lib.ListN.{length, set, replicate, drop, length-append, length-replicate}
 use lib.Seq.{drop-cons, append_snoc, set_at, set-append_seam}
-use Rattle.laws.proofs.Tests.{refuted, sure, clash}
-use Rattle.quantity.specs.declared.quantities.Fen.{Fen}
+use Rattle.laws.proofs.Tests.{refuted, clash}
 use Rattle.quantity.specs.declared.refusals.Refusal.{Refusal}
 use Rattle.entry.specs.declared.entries.Entry.{Entry}
 use Rattle.register.specs.declared.registers.Register.{Register}
 use Rattle.entry.specs.Entries.{no_entry}
-use Rattle.register.specs.Registers.{entry_at, sound, total_in, owed_of}
+use Rattle.register.specs.Registers.{past_end, entry_at, sound, total_in, owed_of}
 use Rattle.ledger.specs.Closings.{others, moved_to, without, closed_of}
-use Rattle.register.proofs.Soundness.{owed-damaged, owed-total}
-use Rattle.std.specs.Prelude.{Ok, Err}
+use Rattle.register.proofs.Soundness.{owed-total}
+use Rattle.std.specs.Prelude.{Err}
 
 -- the entry is this customer's
 abbrev pub theirs : ℕ → Entry → Bool
@@ -30,38 +29,32 @@ module _ {A : Type 0} (z : A) where
   before-zeros zero t = refl
   before-zeros (suc m) t = ap (λ (l : List A). z ∷ l) (before-zeros m t)
 
-  -- place n is cleared, then the first place after s is stored to
-  turn : (s t : List A) (e v : A) (n : ℕ) → length s ≤ n
-      → set (set (s ++ (replicate (n - length s) z ++ (e ∷ t))) n z) (length s) v ≡ s ++ (v ∷ (replicate (n - length s) z ++ t))
-  turn s t e v n h =
+  -- place n is cleared: one place of zeros more
+  cleared : (s t : List A) (e : A) (n : ℕ) → length s ≤ n
+      → set (s ++ (replicate (n - length s) z ++ (e ∷ t))) n z ≡ s ++ (replicate (suc n - length s) z ++ t)
+  cleared s t e n h =
       let m = n - length s in
-      ap (λ (l : List A). set (set l n z) (length s) v) (sym (append_assoc s (replicate m z) (e ∷ t)))
-      ∙ ap (λ (l : List A). set l (length s) v) (set_at (s ++ replicate m z) e t z n (length-append s (replicate m z) ∙ omega (arith, length-replicate m z)))
-      ∙ ap (λ (l : List A). set l (length s) v) (append_assoc s (replicate m z) (z ∷ t) ∙ ap (λ (l : List A). s ++ l) (before-zeros m t))
+      let k : suc m ≡ suc n - length s = omega arith in
+      ap (λ (l : List A). set l n z) (sym (append_assoc s (replicate m z) (e ∷ t)))
+      ∙ set_at (s ++ replicate m z) e t z n (length-append s (replicate m z) ∙ omega (arith, length-replicate m z))
+      ∙ append_assoc s (replicate m z) (z ∷ t)
+      ∙ ap (λ (l : List A). s ++ l) (before-zeros m t)
+      ∙ ap (λ (j : ℕ). s ++ (replicate j z ++ t)) k
+
+  -- and the first place after s is stored to: one more before the zeros
+  stored : (s t : List A) (v : A) (n : ℕ) → length s ≤ n
+      → set (s ++ (replicate (suc n - length s) z ++ t)) (length s) v ≡ (s ++ (v ∷ [])) ++ (replicate (suc n - length (s ++ (v ∷ []))) z ++ t)
+  stored s t v n h =
+      let m = n - length s in
+      let k : suc n - length s ≡ suc m = omega arith in
+      let e : m ≡ suc n - length (s ++ (v ∷ [])) = omega (arith, length-append s (v ∷ [])) in
+      ap (λ (j : ℕ). set (s ++ (replicate j z ++ t)) (length s) v) k
       ∙ set-append_seam s z (replicate m z ++ t) v
-
-  -- a place of zeros more, or one more of the others
-  turn-zeros : (s t : List A) (n : ℕ) → length s ≤ n → s ++ (z ∷ (replicate (n - length s) z ++ t)) ≡ s ++ (replicate (suc n - length s) z ++ t)
-  turn-zeros s t n h =
-      let e : suc (n - length s) ≡ suc n - length s = omega arith in
-      ap (λ (m : ℕ). s ++ (replicate m z ++ t)) e
-
-  turn-entry : (s t : List A) (v : A) (n : ℕ)
-      → s ++ (v ∷ (replicate (n - length s) z ++ t)) ≡ (s ++ (v ∷ [])) ++ (replicate (suc n - length (s ++ (v ∷ []))) z ++ t)
-  turn-entry s t v n =
-      let e : n - length s ≡ suc n - length (s ++ (v ∷ [])) = omega (arith, length-append s (v ∷ [])) in
-      sym (append_snoc s v (replicate (n - length s) z ++ t)) ∙ ap (λ (m : ℕ). (s ++ (v ∷ [])) ++ (replicate m z ++ t)) e
+      ∙ sym (append_snoc s v (replicate m z ++ t))
+      ∙ ap (λ (j : ℕ). (s ++ (v ∷ [])) ++ (replicate j z ++ t)) e
 
 -- ---- the first n places gone through
 module _ (customer : ℕ) (r : Register) where
-  pub others-none : 0 ≡ length (others customer r 0)
-  unfolding others
-  others-none = refl
-
-  pub moved_none : r.entries ≡ moved_to customer r 0
-  unfolding others moved_to
-  moved_none = refl
-
   pub others-goes : (n : ℕ) → theirs customer (entry_at r n) ≡ true → others customer r (suc n) ≡ others customer r n
   unfolding others
   others-goes n q = rw q
@@ -70,48 +63,41 @@ module _ (customer : ℕ) (r : Register) where
   unfolding others
   others-stays n q = rw q
 
-  pub others-more : (n free p : ℕ) → free ≡ length (others customer r n) → p ≡ cond (theirs customer (entry_at r n)) 0 1
-      → free + p ≡ length (others customer r (n + 1))
-  others-more n free p f e = go (theirs customer (entry_at r n)) refl
-    where
-      go : (b : Bool) → theirs customer (entry_at r n) ≡ b → free + p ≡ length (others customer r (n + 1))
-      go true h = rw (add-one, others-goes n h) (omega (arith, rw h at e))
-      go false h = rw (add-one, others-stays n h) (omega (arith, length-append (others customer r n) (entry_at r n ∷ []), rw h at e))
-
-  pub others-most : (n : ℕ) → length (others customer r n) ≤ n
+  pub others_most : (n : ℕ) → length (others customer r n) ≤ n
   unfolding others
-  others-most zero = omega arith
-  others-most (suc n) = go (others-most n) (theirs customer (entry_at r n))
+  others_most zero = omega arith
+  others_most (suc n) = go (others_most n) (theirs customer (entry_at r n))
     where
       go : length (others customer r n) ≤ n → (b : Bool) → length (cond b (others customer r n) (others customer r n ++ (entry_at r n ∷ []))) ≤ suc n
       go h true = omega arith
       go h false = omega (arith, length-append (others customer r n) (entry_at r n ∷ []))
 
-  -- one turn of the loop
+  -- one place more
   module _ (n : ℕ) (h : n < length r.entries) where
-    stored : (v : Entry) → set (set (moved_to customer r n) n no_entry) (length (others customer r n)) v
-        ≡ others customer r n ++ (v ∷ (replicate (n - length (others customer r n)) no_entry ++ drop (n + 1) r.entries))
+    gone : set (moved_to customer r n) n no_entry
+        ≡ others customer r n ++ (replicate (suc n - length (others customer r n)) no_entry ++ drop (suc n) r.entries)
     unfolding moved_to
-    stored v =
-        let d : drop n r.entries ≡ entry_at r n ∷ drop (suc n) r.entries = drop-cons r.entries n _ h in
-        rw (add-one, d)
-        (turn no_entry (others customer r n) (drop (suc n) r.entries) (entry_at r n) v n (others-most n))
+    gone =
+        rw (drop-cons r.entries n past_end h)
+        (cleared no_entry (others customer r n) (drop (suc n) r.entries) (entry_at r n) n (others_most n))
 
-    pub moved_more : (free : ℕ) (l : List Entry) (z v : Entry) → free ≡ length (others customer r n) → l ≡ moved_to customer r n → z ≡ no_entry
-        → v ≡ cond (theirs customer (entry_at r n)) no_entry (entry_at r n) → set (set l n z) free v ≡ moved_to customer r (n + 1)
-    unfolding moved_to
-    moved_more free l z v f e p q = rw (f, e, p) (stored v ∙ go (theirs customer (entry_at r n)) refl)
-      where
-        go : (b : Bool) → theirs customer (entry_at r n) ≡ b
-            → others customer r n ++ (v ∷ (replicate (n - length (others customer r n)) no_entry ++ drop (n + 1) r.entries)) ≡ moved_to customer r (n + 1)
-        go true w = rw (rw w at q, add-one, others-goes n w) (turn-zeros no_entry (others customer r n) (drop (suc n) r.entries) n (others-most n))
-        go false w = rw (rw w at q, add-one, others-stays n w) (turn-entry no_entry (others customer r n) (drop (suc n) r.entries) (entry_at r n) n)
+    -- where the first free place comes after the others
+    module _ (free : ℕ) (l : List Entry) (z : Entry) (f : free ≡ length (others customer r n)) (e : l ≡ moved_to customer r n) (p : z ≡ no_entry) where
+      -- an entry of the customer goes
+      pub moved-goes : theirs customer (entry_at r n) ≡ true
+          → (free ≡ length (others customer r (n + 1))) × (set l n z ≡ moved_to customer r (n + 1))
+      unfolding moved_to
+      moved-goes q = rw (add-one n, others-goes n q) (f, rw (e, p) gone)
 
-  -- all of them
-  pub moved_all : (n free : ℕ) (l : List Entry) → n ≡ r.count → free ≡ length (others customer r n) → l ≡ moved_to customer r n
-      → record { entries = l; count = free } ≡ without r customer
-  unfolding without
-  moved_all n free l c f e = rw (f, e, c)
+      -- one of another takes that place
+      pub moved-stays : theirs customer (entry_at r n) ≡ false
+          → (free + 1 ≡ length (others customer r (n + 1))) × (set (set l n z) free (entry_at r n) ≡ moved_to customer r (n + 1))
+      unfolding moved_to
+      moved-stays q =
+          rw (add-one n, others-stays n q) (
+            omega (arith, length-append (others customer r n) (entry_at r n ∷ [])),
+            rw (e, p, f, gone) (stored no_entry (others customer r n) (drop (suc n) r.entries) (entry_at r n) n (others_most n)),
+          )
 
 -- ---- a closing
 module _ (r : Register) (customer : ℕ) where
@@ -123,13 +109,6 @@ module _ (r : Register) (customer : ℕ) where
   unfolding closed_of
   closed-not broken = rw broken
 
-  pub total-sound : (t : Fen) → owed_of r customer ≡ Ok t → sound r ≡ true
-  total-sound t e =
-      sure (sound r)
-      (λ h.
-      let d = owed-damaged r customer h in
-      clash cc)
-
   refused-damaged : (f : Refusal) → owed_of r customer ≡ Err f → sound r ≡ false
   refused-damaged f e =
       refuted (sound r)
@@ -140,6 +119,3 @@ module _ (r : Register) (customer : ℕ) where
   -- "Refusals: 19, the register unchanged"
   pub closed-refused : (f : Refusal) → owed_of r customer ≡ Err f → closed_of r customer ≡ r
   closed-refused f e = closed-not (refused-damaged f e)
-
-  pub closed-total : (t : Fen) → owed_of r customer ≡ Ok t → closed_of r customer ≡ without r customer
-  closed-total t e = closed_is (total-sound t e)

@@ -39,7 +39,7 @@ use Rattle.ledger.proofs.Grown.{key-kept, value-kept, entry_old, entry_new}
 use Rattle.register.proofs.Dues.{place-free, unknown-held, due-damaged}
 use Rattle.ledger.proofs.Histories.{left_grown, after_is, billed-is}
 use Rattle.ledger.proofs.Moves.{closed-not}
-use Rattle.register.proofs.Soundness.{all-ok, sound-fresh, sound-most, owed-damaged, owed-total}
+use Rattle.register.proofs.Soundness.{all-ok, sound-fresh, sound_most, owed-damaged, owed-total}
 use Rattle.ledger.proofs.Sameness.{key-alike, sound-same}
 use Rattle.register.proofs.Seen.{Taken, Why, Seen, seen, placed}
 use Rattle.register.proofs.Seen.Why.{damaged, misshapen, unrated, dear, other, crowded}
@@ -164,7 +164,7 @@ module _ (r : Register) (whole : sound r ≡ true) (full : Full r) where
       taken = record { whole = (left_grown (calls-of r n)).whole; shape = p.shape; rated = p.rated; price = p.price }
 
       room : s.count < 512
-      room = omega (arith, b.count, sound-most r whole)
+      room = omega (arith, b.count, sound_most r whole)
 
       due : due_of s x ≡ enter p.sheet
       due =
@@ -209,10 +209,10 @@ rated-number k s n e = by_length (eqb s.len (bands_of k)) refl
   where
     by-range : eqb s.len (bands_of k) ≡ true → (b : Bool) → accepted s (bands_of k) ≡ b → number_of n ≤ 4
     by-range p true q =
-        let c : Ok (sheet_of k s) ≡ Err n = sym (λ i. asked (p i) (asked (q i) (Ok (sheet_of k s)) (Err BandRange)) (Err BandCount)) ∙ e in
+        let c : Ok (sheet_of k s) ≡ Err n = sym (λ i. asked (p i) (asked (q i) (Ok (sheet_of k s)) BandRange) BandCount) ∙ e in
         clash cc
     by-range p false q =
-        let c : Err BandRange ≡ Err n = sym (λ i. asked (p i) (asked (q i) (Ok (sheet_of k s)) (Err BandRange)) (Err BandCount)) ∙ e in
+        let c : Err BandRange ≡ Err n = sym (λ i. asked (p i) (asked (q i) (Ok (sheet_of k s)) BandRange) BandCount) ∙ e in
         let d : BandRange ≡ n = cc in
         let m : 4 ≡ number_of n = ap number_of d in
         omega arith
@@ -220,7 +220,7 @@ rated-number k s n e = by_length (eqb s.len (bands_of k)) refl
     by_length : (b : Bool) → eqb s.len (bands_of k) ≡ b → number_of n ≤ 4
     by_length true p = by-range p (accepted s (bands_of k)) refl
     by_length false p =
-        let c : Err BandCount ≡ Err n = sym (λ i. asked (p i) (asked (accepted s (bands_of k)) (Ok (sheet_of k s)) (Err BandRange)) (Err BandCount)) ∙ e in
+        let c : Err BandCount ≡ Err n = sym (λ i. asked (p i) (asked (accepted s (bands_of k)) (Ok (sheet_of k s)) BandRange) BandCount) ∙ e in
         let d : BandCount ≡ n = cc in
         let m : 1 ≡ number_of n = ap number_of d in
         omega arith
@@ -238,14 +238,14 @@ damaged-bill r x e = go (seen r x)
   where
     go : Seen r x → sound r ≡ false
     go (turned n w d) =
-        let c : Err n ≡ Err RegisterDamaged = sym (billed-is r x d) ∙ e in
+        let c = sym (billed-is r x d) ∙ e in
         let q : n ≡ RegisterDamaged = cc in
         why-damaged n w (ap number_of q)
     go (retried sheet t h d) =
-        let c : Ok sheet (record { 0 = 0 }) ≡ Err RegisterDamaged = sym (billed-is r x d) ∙ e in
+        let c = sym (billed-is r x d) ∙ e in
         clash cc
     go (added sheet t k room d) =
-        let c : Ok sheet (record { 0 = x.price }) ≡ Err RegisterDamaged = sym (billed-is r x d) ∙ e in
+        let c = sym (billed-is r x d) ∙ e in
         clash cc
 
 -- 19 is given only to a register that no calls could have left so

@@ -21,9 +21,9 @@ use Rattle.register.specs.Registers.{opened, past_end, entry_at, sound, known, h
 use Rattle.ledger.specs.Closings.{others, moved_to, without, closed_of}
 use Rattle.ledger.specs.Histories.{SameEntry, SameRegister}
 use Rattle.ledger.proofs.Grown.{Grown, each_to, opened-grown, with-grown, entry_old, entry_new, any-with, sum-with}
-use Rattle.ledger.proofs.Moves.{theirs, others-goes, others-stays, others-most, closed_is}
+use Rattle.ledger.proofs.Moves.{theirs, others-goes, others-stays, others_most, closed_is}
 use Rattle.ledger.proofs.Sameness.{same-entry, sound-same}
-use Rattle.register.proofs.Soundness.{all-ok, sound-fresh, sound-most}
+use Rattle.register.proofs.Soundness.{all-ok, sound-fresh, sound_most}
 use Rattle.entry.proofs.Texts.{key-same}
 
 -- ---- the others, entered one by one
@@ -255,7 +255,7 @@ module _ (r : Register) (customer : ℕ) (most : r.count ≤ 512) where
 rest-known : (customer : ℕ) (r : Register) → sound r ≡ true → (n : ℕ) → n < r.count → known (rest customer r n) (entry_at r n) ≡ false
 unfolding known
 rest-known customer r whole n h =
-    any-rest customer r (λ f. same_key f (entry_at r n)) n (omega (arith, sound-most r whole))
+    any-rest customer r (λ f. same_key f (entry_at r n)) n (omega (arith, sound_most r whole))
     ∙ refuted (any_to (λ i. not (theirs customer (entry_at r i)) && same_key (entry_at r i) (entry_at r n)) n)
     (λ a. never
     (any-mono (λ i. not (theirs customer (entry_at r i)) && same_key (entry_at r i) (entry_at r n)) (λ i. same_key (entry_at r i) (entry_at r n)) n
@@ -268,13 +268,13 @@ rest-grown customer r whole n h =
     (λ n g q b h.
     with-grown (rest customer r n) (entry_at r n) (b (omega arith)) (all-at (λ i. entry_ok (entry_at r i)) r.count (all-ok r whole) n h)
     (rest-known customer r whole n h) (omega (arith, (roomy customer r n (omega arith)).most)))
-    n (omega (arith, sound-most r whole)) h
+    n (omega (arith, sound_most r whole)) h
 
 without-length : (r : Register) (customer : ℕ) → r.count ≤ 512 → length r.entries ≡ 512 → length (without r customer).entries ≡ 512
 unfolding without moved_to
 without-length r customer most h =
     let l : List Entry = others customer r r.count in
-    let k : length l ≤ r.count = others-most customer r r.count in
+    let k : length l ≤ r.count = others_most customer r r.count in
     omega (
       arith,
       length-append l (replicate (r.count - length l) no_entry ++ drop r.count r.entries),
@@ -289,12 +289,12 @@ pub without-sound : (r : Register) (customer : ℕ) → sound r ≡ true → sou
 without-sound r customer whole = sym (sound-same same) ∙ (rest-grown customer r whole r.count (le_refl r.count)).whole
   where
     n : (without r customer).count ≡ (rest customer r r.count).count
-    n = without-count r customer (sound-most r whole)
+    n = without-count r customer (sound_most r whole)
 
     same : SameRegister (rest customer r r.count) (without r customer)
     same = record {
       count = sym n;
-      entries = λ i h. subst⁻¹ (SameEntry (entry_at (rest customer r r.count) i)) (without_at r customer (sound-most r whole) i (omega (arith, n)))
+      entries = λ i h. subst⁻¹ (SameEntry (entry_at (rest customer r r.count) i)) (without_at r customer (sound_most r whole) i (omega (arith, n)))
           (same-entry (entry_at (rest customer r r.count) i));
     }
 
@@ -302,5 +302,5 @@ pub closed-grown : (r : Register) (customer : ℕ) → Grown r → Grown (closed
 closed-grown r customer g =
     subst⁻¹ Grown (closed_is r customer g.whole) (record {
       whole = without-sound r customer g.whole;
-      places = without-length r customer (sound-most r g.whole) g.places;
+      places = without-length r customer (sound_most r g.whole) g.places;
     })
