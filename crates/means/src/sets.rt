@@ -66,7 +66,7 @@ fn means(values: &[Tenths], marks: u64, count: usize, step: usize, stride: usize
             values[i],
             values[i + stride],
             values[i + 2 * stride],
-            &tables,
+            tables,
         );
         limits += weight(marked_of_three(marks, i, stride), j);
     }
