@@ -1,18 +1,17 @@
 -- What lies past the stated length of a band set, or of a list of specimens' readings, never matters to a cover or a grade.
 -- Assumes nothing.
 use mathlib.Core.Path.{◌≡◌, refl, sym, ◌∙◌, ap}
-use mathlib.Core.Bool.{cond}
+use mathlib.Core.Bool.{Bool}
 use mathlib.Core.List.{List}
 use Prim.Native.Nat.{ℕ, ◌<◌}
 use borrow.Author.Tests.{ne_eqb}
-use lib.Dec.{eqb}
 use lib.IntN.{ℤ, ◌-ℤ◌}
 use Rattle.laws.proofs.Lists.{listed_at}
 use Rattle.quantity.specs.Quantities.{band_of, tenths, nought}
 use Rattle.quantity.specs.declared.quantities.Tenths.{Tenths}
 use Rattle.quantity.specs.declared.quantities.BandSet.{BandSet}
 use Rattle.quantity.specs.declared.quantities.Reading.{Reading}
-use Rattle.quantity.specs.declared.refusals.Refusal.TheVariants.{BandCount, BandRange}
+use Rattle.quantity.specs.declared.refusals.Refusal.TheVariants.{BandCount}
 use Rattle.measurement.proofs.Past.{Alike}
 use Rattle.laws.specs.Tests.{bit}
 use Rattle.kinds.specs.declared.kinds.Kind.TheVariants.{I3}
@@ -41,14 +40,14 @@ module _ (s t : BandSet) (len : s.len ≡ t.len) (values : (i : ℕ) → i < 16 
   })
 
   by-same : (r : Result Sheet Refusal) → cover_by s r ≡ cover_by t r
-  by-same (Ok sheet) = ap (improvement_of sheet) (limited-same s t 16 marks)
+  by-same (Ok sheet) = ap (λ (m : Bool). Ok (improvement_of sheet m)) (limited-same s t 16 marks)
   by-same (Err r) = refl
 
   cover-agreed : cover_of s ≡ cover_of t
   unfolding cover_of
   cover-agreed =
-      let c = ap (cover_by s) rated-same ∙ by-same (rated_of I3 (derived_set t)) in
-      λ i. cond (eqb (len i) 16) (cond (accepted-same s t 16 values i) (c i) (Err BandRange)) (Err BandCount)
+      let c : cover_by s (rated_of I3 (derived_set s)) ≡ cover_by t (rated_of I3 (derived_set t)) = ap (cover_by s) rated-same ∙ by-same (rated_of I3 (derived_set t)) in
+      rw (accepted-same s t 16 values, c, len)
 
 cover-other : (s : BandSet) → (s.len ≡ 16 → ⊥) → cover_of s ≡ Err BandCount
 unfolding cover_of
@@ -59,4 +58,4 @@ cover-past = past_by cover_of 16 (Err BandCount) cover-other cover-agreed
 
 pub grade-past : (a b : List Reading) (len : ℕ) (side : Side) → Alike a b len → grades_of a len side ≡ grades_of b len side
 unfolding grades_of
-grade-past a b len side h = ap (λ (r : Result BandSet Refusal). graded side r.set r.outcome) (specimens-past a b len h)
+grade-past a b len side h = ap (graded side) (specimens-past a b len h)

@@ -1,10 +1,11 @@
--- Sums of small signed numbers do not wrap: what the code's 32-bit sums ask, and what they are. Assumes nothing.
-use mathlib.Core.Path.{◌≡◌, ◌∙◌}
+-- Sums of small signed numbers do not wrap: what the code's 32-bit sums are. Assumes nothing.
+use mathlib.Core.Path.{◌≡◌, sym, ◌∙◌, ap, ap₂, subst}
+use Prim.Native.Nat.{◌≤◌}
 use native.Mathlib.Omega.{arith}
 use lib.IntN.{ℤ, pos, neg_ℤ, ◌+ℤ◌, ◌-ℤ◌}
 use mir.Syntax.{w32}
 use mir.Val.{SFits, to_z, of_z}
-use mir.Facts.{to_z-of_z}
+use Rattle.laws.specs.Parts.{P, N}
 use Rattle.laws.proofs.Ints.{plus, minus, apart, opposite, eq-made, fits-made}
 use Rattle.quantity.proofs.Counts.{near}
 use Rattle.rating.specs.Bounds.{Small}
@@ -16,25 +17,31 @@ bits z = to_z w32 (of_z w32 z)
 small : (z : ℤ) → Small z → bits z ≡ z
 small z h = near z (omega arith) (omega arith)
 
+-- what is computed as z and is w, a small number, is read back as w
+read : (z w : ℤ) → z ≡ w → P w ≤ 100000 → N w ≤ 100000 → bits z ≡ w
+read z w e p q = ap bits e ∙ near w p q
+
+-- the difference of two small numbers
+pub small_difference : (x y : ℤ) → (P x ≤ 10000) × (N x ≤ 10000) → (P y ≤ 10000) × (N y ≤ 10000)
+    → SFits w32 (bits x -ℤ bits y) × (bits (bits x -ℤ bits y) ≡ x -ℤ y)
+small_difference x y h k =
+    let e : bits x -ℤ bits y ≡ x -ℤ y = ap₂ ◌-ℤ◌ (near x (omega arith) (omega arith)) (near y (omega arith) (omega arith)) in
+    let m = minus x y in
+    let a = apart (x -ℤ y) in (
+      subst (SFits w32) (sym e) (fits-made (omega (arith, m, a)) (omega (arith, m, a))),
+      read (bits x -ℤ bits y) (x -ℤ y) e (omega (arith, m, a)) (omega (arith, m, a)),
+    )
+
 -- the numbers of a cover
-pub rating-fits : (r : ℤ) → Small r → SFits w32 (pos 78 -ℤ bits r)
-rating-fits r h =
-    rw (small r h) (fits-made (omega (arith, minus (pos 78) r, apart (pos 78 -ℤ r))) (omega (arith, minus (pos 78) r, apart (pos 78 -ℤ r))))
-
-pub rating-is : (r : ℤ) → Small r → bits (pos 78 -ℤ bits r) ≡ pos 78 -ℤ r
-rating-is r h = to_z-of_z (rating-fits r h) ∙ rw (small r h)
-
-pub ten-more : (t : ℤ) → Small t → SFits w32 (bits t +ℤ pos 10)
-ten-more t h =
-    rw (small t h) (fits-made (omega (arith, plus t (pos 10), apart (t +ℤ pos 10))) (omega (arith, plus t (pos 10), apart (t +ℤ pos 10))))
-
-pub term_fits : (t : ℤ) → Small t → SFits w32 (pos 0 -ℤ bits (bits t +ℤ pos 10))
-term_fits t h =
-    let z : ℤ = t +ℤ pos 10 in
-    rw (to_z-of_z (ten-more t h), small t h)
-    (fits-made (omega (arith, plus t (pos 10), minus (pos 0) z, apart (pos 0 -ℤ z))) (omega (arith, plus t (pos 10), minus (pos 0) z, apart (pos 0 -ℤ z))))
+pub rating_is : (r : ℤ) → Small r → bits (pos 78 -ℤ bits r) ≡ pos 78 -ℤ r
+rating_is r h =
+    let m = minus (pos 78) r in
+    read (pos 78 -ℤ bits r) (pos 78 -ℤ r) (ap (λ (z : ℤ). pos 78 -ℤ z) (small r h)) (omega (arith, m, apart (pos 78 -ℤ r))) (omega (arith, m, apart (pos 78 -ℤ r)))
 
 pub term_is : (t : ℤ) → Small t → bits (pos 0 -ℤ bits (bits t +ℤ pos 10)) ≡ neg_ℤ (t +ℤ pos 10)
 term_is t h =
     let z : ℤ = t +ℤ pos 10 in
-    to_z-of_z (term_fits t h) ∙ rw (to_z-of_z (ten-more t h), small t h) (eq-made (omega (arith, minus (pos 0) z, opposite z)))
+    let p = plus t (pos 10) in
+    let inner : bits (bits t +ℤ pos 10) ≡ z = read (bits t +ℤ pos 10) z (ap (λ (y : ℤ). y +ℤ pos 10) (small t h)) (omega (arith, p, apart z)) (omega (arith, p, apart z)) in
+    let negated : pos 0 -ℤ z ≡ neg_ℤ z = eq-made (omega (arith, minus (pos 0) z, opposite z)) in
+    read (pos 0 -ℤ bits (bits t +ℤ pos 10)) (neg_ℤ z) (ap (λ (y : ℤ). pos 0 -ℤ y) inner ∙ negated) (omega (arith, p, apart z, opposite z)) (omega (arith, p, apart z, opposite z))

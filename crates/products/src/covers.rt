@@ -8,7 +8,6 @@ ghost use Rattle.products.specs.Covers.{floor_at, derived_set, improvement_of, c
 
 use curve::levels::all_in_range;
 use kinds::{I3Kind, Kind, RatingKind};
-use quantity::signed::{above, less};
 use quantity::{BandSet, Decibels, Refusal, Tenths};
 use rating::{Sheet, rate};
 
@@ -21,7 +20,7 @@ pub struct Cover {
 }
 
 // The reference floor, in tenths.
-const FLOOR: [u32; 16] = [
+const FLOOR: [i32; 16] = [
     670, 675, 680, 685, 690, 695, 700, 705, 710, 715, 720, 720, 720, 720, 720, 720,
 ];
 
@@ -31,7 +30,7 @@ fn derived(i: usize, improvement: Tenths) -> Tenths
     requires ranged { in_range improvement.0 ≡ true }
     ensures { result.0 ≡ floor_at i -ℤ improvement.0 }
 {
-    Tenths(less(FLOOR[i] + 200, above(improvement.0, 200)))
+    Tenths(FLOOR[i] - improvement.0)
 }
 
 // The reference floor under the cover.
@@ -41,9 +40,7 @@ fn derived_set(set: BandSet) -> BandSet
 {
     let mut values = [Tenths(0); 16];
     for i in 0..I3Kind::BANDS {
-        let improvement = set.values[i];
-        let level = derived(i, improvement);
-        values[i] = level;
+        values[i] = derived(i, set.values[i]);
     }
     BandSet {
         values,
@@ -53,6 +50,7 @@ fn derived_set(set: BandSet) -> BandSet
 }
 
 // The improvement, from the sheet of the floor under the cover.
+#[tactic(auto, using(crate::proofs::Signed::rating_is, crate::proofs::Signed::term_is))]
 fn improvement(sheet: Sheet) -> Cover
     requires { SmallSheet sheet }
     ensures { result ≡ improvement_of sheet sheet.limit }
@@ -65,6 +63,7 @@ fn improvement(sheet: Sheet) -> Cover
 }
 
 // The improvement of a cover: 1 where it has no sixteen bands, 4 where one is out of range, then 6 where a derived level is.
+#[tactic(auto, using(crate::proofs::Improvements::limit_is), unfolding(crate::specs::Covers::cover_of))]
 pub fn cover_of(set: BandSet) -> Result<Cover, Refusal>
     ensures { result ≡ cover_of set }
 {
@@ -74,8 +73,8 @@ pub fn cover_of(set: BandSet) -> Result<Cover, Refusal>
     if !all_in_range(set, I3Kind::BANDS) {
         return Err(Refusal::BandRange);
     }
-    match rate(Kind::I3, derived_set(set)) {
-        Ok(sheet) => Ok(improvement(sheet)),
-        Err(_) => Err(Refusal::DerivedRange),
-    }
+    let Ok(sheet) = rate(Kind::I3, derived_set(set)) else {
+        return Err(Refusal::DerivedRange);
+    };
+    Ok(improvement(sheet))
 }

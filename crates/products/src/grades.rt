@@ -28,29 +28,19 @@ pub struct Grade {
 }
 
 // The grade of a deciding number (004, table 1).
+#[tactic(auto, unfolding(crate::specs::Grades::grade_of))]
 fn step(deciding: Decibels) -> u32
     ensures { result ≡ grade_of deciding.0 }
 {
-    let number = deciding.0;
-    if number < 20 {
-        return 0;
+    match deciding.0 {
+        ..=19 => 0,
+        20..=24 => 1,
+        25..=29 => 2,
+        30..=34 => 3,
+        35..=39 => 4,
+        40..=44 => 5,
+        _ => 6,
     }
-    if number < 25 {
-        return 1;
-    }
-    if number < 30 {
-        return 2;
-    }
-    if number < 35 {
-        return 3;
-    }
-    if number < 40 {
-        return 4;
-    }
-    if number < 45 {
-        return 5;
-    }
-    6
 }
 
 // The second term; an airborne sheet has one.
@@ -65,18 +55,11 @@ fn deciding_of(side: Side, sheet: Sheet) -> Decibels
     requires { SmallSheet sheet }
     ensures { result.0 ≡ deciding_of side sheet }
 {
-    let rating = sheet.rating;
-    match side {
-        Side::Outside => {
-            let second = sheet.second;
-            let ctr = second_of(second);
-            Decibels(rating.0 + ctr.0)
-        }
-        Side::Inside => {
-            let c = sheet.first;
-            Decibels(rating.0 + c.0)
-        }
-    }
+    let term = match side {
+        Side::Outside => second_of(sheet.second),
+        Side::Inside => sheet.first,
+    };
+    Decibels(sheet.rating.0 + term.0)
 }
 
 // What the sheet of the means says of the door or window.
@@ -84,24 +67,20 @@ fn sheet_grade(side: Side, sheet: Sheet) -> Grade
     requires { SmallSheet sheet }
     ensures { result ≡ sheet_grade side sheet }
 {
-    let rating = sheet.rating;
-    let c = sheet.first;
-    let second = sheet.second;
-    let ctr = second_of(second);
     let deciding = deciding_of(side, sheet);
-    let step = step(deciding);
     Grade {
-        rating,
-        c,
-        ctr,
+        rating: sheet.rating,
+        c: sheet.first,
+        ctr: second_of(sheet.second),
         deciding,
-        grade: step,
+        grade: step(deciding),
         limit: sheet.limit,
     }
 }
 
 // The grade of three specimens, given as 48 readings one specimen after the other: 12 where `len` is another number, then the
 // refusal of the first reading that is refused.
+#[tactic(auto, unfolding(crate::specs::Grades::grades_of))]
 pub fn grade_of(readings: [Reading; 48], len: usize, side: Side) -> Result<Grade, Refusal>
     ensures { result ≡ grades_of readings len side }
 {

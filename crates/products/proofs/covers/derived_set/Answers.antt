@@ -6,8 +6,8 @@ use Rattle.laws.proofs.Lists.{agreed-all}
 use Rattle.products.proofs.Improvements.{derived-all}
 use Rattle.products.proofs.covers.derived_set.Goals as goal
 
-pub derived-level-requires : goal.derived-level-requires
-derived-level-requires c = record { i_bound = omega arith; ranged = band-in _ 16 c.requires c.loop-i.i (omega arith) }
+pub derived-requires-clause-ranged : goal.derived-requires-clause-ranged
+derived-requires-clause-ranged c = band-in _ 16 c.requires c.loop-i.i (omega arith)
 
 pub returns : goal.returns
 returns c = derived-all c.args.set c.loop-i.values (agreed-all nought _ 16 c.loop-i.values c.loop-i.i (omega arith) c.loop-i.invariant)

@@ -1,5 +1,4 @@
 -- `products::covers::derived_set` meets its contract. The invariant: the derived levels so far. Assumes nothing.
-use Prim.Native.Nat.{◌-◌}
 use lib.IntN.{◌-ℤ◌}
 use Rattle.quantity.specs.Quantities.{band_of, tenths, nought}
 use Rattle.laws.proofs.Lists.{Agreed}
@@ -8,6 +7,3 @@ use Rattle.products.proofs.covers.derived_set.Given as goal
 
 abbrev pub invariant-loop-i : goal.invariant-loop-i
 invariant-loop-i l = Agreed nought (λ j. tenths (floor_at j -ℤ band_of l.set j)) 16 l.values l.i
-
-abbrev pub decreases-loop-i : goal.decreases-loop-i
-decreases-loop-i l = 16 - l.i
