@@ -1,49 +1,20 @@
--- The key of a request: its bytes by the tests of the code, and its shape, as a test and in the words of the paper. Assumes
--- nothing.
+-- The key of a request: its bytes, and its shape, as a test and in the words of the paper. Assumes nothing.
 use mathlib.Core.Path.{◌≡◌, refl, sym, ◌∙◌, subst}
 use mathlib.Core.Bool.{Bool, true, false, ◌&&◌}
 use mathlib.Core.List.{List, [], ◌∷◌}
 use Prim.Native.Nat.{ℕ, ◌+◌, ◌≤◌, ◌<◌}
 use native.Mathlib.Numerals.{add-one}
 use native.Mathlib.Omega.{arith}
-use borrow.Author.Tests.{le-leb, lt-leb, leb-true, leb-false, eq-eqb, ne_eqb}
+use borrow.Author.Tests.{le-leb, lt-leb, leb-true, leb-false, ne_eqb}
 use lib.Dec.{leb, T}
 use lib.ListN.{length, get_or, drop, drop_of_length-le}
 use lib.Seq.{drop-cons}
 use Rattle.laws.proofs.Tests.{both}
 use Rattle.quantity.specs.Keys.{key_byte, KeyBytes, KeyOk, all_key, key_shape}
 
--- the bytes of a key, by the tests of the code in order
-module _ (b : ℕ) where
-  pub key-hyphen : b ≡ 45 → true ≡ key_byte b
-  unfolding key_byte
-  key-hyphen h = simp (eq-eqb b 45 h)
-
-  pub key-low : (b ≡ 45 → ⊥) → b < 48 → false ≡ key_byte b
-  unfolding key_byte
-  key-low f h = simp (ne_eqb b 45 f, lt-leb 48 b h, lt-leb 65 b (omega arith), lt-leb 97 b (omega arith))
-
-  pub key-digit : (b ≡ 45 → ⊥) → 48 ≤ b → b ≤ 57 → true ≡ key_byte b
-  unfolding key_byte
-  key-digit f h k = simp (ne_eqb b 45 f, le-leb 48 b h, le-leb b 57 k)
-
-  pub key-middle : 57 < b → b < 65 → false ≡ key_byte b
-  unfolding key_byte
-  key-middle h k = simp (ne_eqb b 45 (omega arith), le-leb 48 b (omega arith), lt-leb b 57 h, lt-leb 65 b k, lt-leb 97 b (omega arith))
-
-  pub key-capital : 65 ≤ b → b ≤ 90 → true ≡ key_byte b
-  unfolding key_byte
-  key-capital h k = simp (ne_eqb b 45 (omega arith), le-leb 48 b (omega arith), lt-leb b 57 (omega arith), le-leb 65 b h, le-leb b 90 k)
-
-  pub key-between : 90 < b → b < 97 → false ≡ key_byte b
-  unfolding key_byte
-  key-between h k =
-      simp (ne_eqb b 45 (omega arith), le-leb 48 b (omega arith), lt-leb b 57 (omega arith), le-leb 65 b (omega arith), lt-leb b 90 h, lt-leb 97 b k)
-
-  pub key-small : 97 ≤ b → leb b 122 ≡ key_byte b
-  unfolding key_byte
-  key-small h =
-      simp (ne_eqb b 45 (omega arith), le-leb 48 b (omega arith), lt-leb b 57 (omega arith), le-leb 65 b (omega arith), lt-leb b 90 (omega arith), le-leb 97 b h)
+key-low : (b : ℕ) → b < 45 → false ≡ key_byte b
+unfolding key_byte
+key-low b h = simp (ne_eqb b 45 (omega arith), lt-leb 48 b (omega arith), lt-leb 65 b (omega arith), lt-leb 97 b (omega arith))
 
 -- a byte of a key is neither 0 nor a tab nor a line feed
 pub key-range : (b : ℕ) → key_byte b ≡ true → 45 ≤ b
@@ -54,7 +25,7 @@ key-range b e = go (leb 45 b) refl
     go true p = leb-true 45 b p
     go false p =
         let h : b < 45 = leb-false 45 b p in
-        let k : ◌≡◌ {A = Bool} false true = key-low b (omega arith) (omega arith) ∙ e in
+        let k : ◌≡◌ {A = Bool} false true = key-low b h ∙ e in
         absurd (subst T (sym k) tt)
 
 -- a text, byte after byte: what is left of it after a byte of a key, at another byte, and at its end
@@ -70,19 +41,10 @@ pub all-ends : (key : List ℕ) (i : ℕ) → length key ≤ i → all_key (drop
 unfolding all_key
 all-ends key i h = rw (drop_of_length-le key h)
 
--- the shape, by the tests of the code in order
-module _ (key : List ℕ) where
-  pub shape-none : length key < 1 → false ≡ key_shape key
-  unfolding key_shape
-  shape-none h = simp (lt-leb 1 (length key) h)
-
-  pub shape-long : 1 ≤ length key → 32 < length key → false ≡ key_shape key
-  unfolding key_shape
-  shape-long h k = simp (le-leb 1 (length key) h, lt-leb (length key) 32 k)
-
-  pub shape-by : 1 ≤ length key → length key ≤ 32 → all_key key ≡ key_shape key
-  unfolding key_shape
-  shape-by h k = simp (le-leb 1 (length key) h, le-leb (length key) 32 k)
+-- the shape of a text of 1 to 32 bytes
+pub shape-by : (key : List ℕ) → 1 ≤ length key → length key ≤ 32 → all_key key ≡ key_shape key
+unfolding key_shape
+shape-by key h k = simp (le-leb 1 (length key) h, le-leb (length key) 32 k)
 
 all-bytes : (key : List ℕ) → all_key key ≡ true → KeyBytes key
 unfolding all_key

@@ -10,42 +10,23 @@ pub fn byte(s: &[u8], at: usize) -> u8
 }
 
 // Whether a byte may stand in a key: an ASCII letter, a digit or a hyphen.
+#[tactic(auto, unfolding(crate::specs::Keys::key_byte))]
 pub fn is_key(b: u8) -> bool
     ensures { result ≡ key_byte b }
 {
-    if b == b'-' {
-        return true;
-    }
-    if b < b'0' {
-        return false;
-    }
-    if b <= b'9' {
-        return true;
-    }
-    if b < b'A' {
-        return false;
-    }
-    if b <= b'Z' {
-        return true;
-    }
-    if b < b'a' {
-        return false;
-    }
-    b <= b'z'
+    matches!(b, b'-' | b'0'..=b'9' | b'A'..=b'Z' | b'a'..=b'z')
 }
 
 // Whether a text has the shape of a key: 1 to 32 such bytes.
+#[tactic(auto, unfolding(crate::specs::Keys::key_shape))]
 pub fn is_key_of(key: &[u8]) -> bool
     ensures { result ≡ key_shape key.now }
 {
-    if key.len() < 1 {
+    if key.len() < 1 || 32 < key.len() {
         return false;
     }
-    if 32 < key.len() {
-        return false;
-    }
-    for i in 0..key.len() {
-        if !is_key(key[i]) {
+    for b in key {
+        if !is_key(*b) {
             return false;
         }
     }

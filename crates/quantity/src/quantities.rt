@@ -52,17 +52,11 @@ fn even_half(tenths: u32) -> u32
 
 impl Tenths {
     // Whether this is a band value: -20.0 to 150.0 dB.
+    #[tactic(auto, unfolding(crate::specs::Quantities::in_range))]
     pub fn in_range(self) -> bool
         ensures { result ≡ in_range self.0 }
     {
-        let t = self.0;
-        if t < -200 {
-            return false;
-        }
-        if 1500 < t {
-            return false;
-        }
-        true
+        -200 <= self.0 && self.0 <= 1500
     }
 
     // The nearest whole decibel, a half going to the even one.
@@ -70,15 +64,15 @@ impl Tenths {
         requires { InRange (negsuc 9999) (pos 10000) self.0 }
         ensures { result.0 ≡ half_even self.0 }
     {
-        let t = self.0;
         // counted from -1000 dB: that is even, so that what is even from there is even
-        let tenths = above(t, 10000);
+        let tenths = above(self.0, 10000);
         Decibels(less(even_half(tenths), 1000))
     }
 }
 
 impl Fen {
     // Whether this is a price: 0 to 1,000,000 fen.
+    #[tactic(auto, unfolding(crate::specs::Quantities::priced))]
     pub fn in_range(self) -> bool
         ensures { result ≡ priced self.0 }
     {
