@@ -62,6 +62,7 @@ fn give_owed(out: &mut [i32], owed: Result<Fen, Refusal>) -> u32
 }
 
 // One call of `bill`. Where the lent array has no room for the answer, the register is not changed.
+#[tactic(auto, using(crate::proofs::Bills::bill_fits), unfolding(crate::specs::Registers::call_given, crate::specs::Registers::bill_answer, crate::specs::Registers::bill_left))]
 pub fn bill_given(
     register: Register,
     customer: u64,
@@ -79,21 +80,20 @@ pub fn bill_given(
     let named = kind_of(kind);
     let set = bands_asked(named, set_from(values, marks));
     let step = enter(register, customer, key, kind_asked(named), set, Fen(price));
-    let billed = step.billed;
     if out.len() < 7 {
         return Changed {
             register,
-            number: give_billed(out, billed),
+            number: give_billed(out, step.billed),
         };
     }
-    let entered = step.register;
     Changed {
-        register: entered,
-        number: give_billed(out, billed),
+        register: step.register,
+        number: give_billed(out, step.billed),
     }
 }
 
 // One call of `owed`.
+#[tactic(auto, using(crate::proofs::Bills::owed_fits), unfolding(crate::specs::Registers::owed_given))]
 pub fn owed_given(register: Register, customer: u64, out: &mut [i32]) -> u32
     ensures value { result ≡ returned (owed_given register customer) (length out.old) }
     ensures out_after { out.new ≡ held (owed_given register customer) out.old }
@@ -102,22 +102,21 @@ pub fn owed_given(register: Register, customer: u64, out: &mut [i32]) -> u32
 }
 
 // One call of `close`. Where the lent array has no room for the total, the register is not changed.
+#[tactic(auto, using(crate::proofs::Bills::owed_fits), unfolding(crate::specs::Registers::owed_given, crate::specs::Registers::close_left))]
 pub fn close_given(register: Register, customer: u64, out: &mut [i32]) -> Changed
     ensures number { result.number ≡ returned (owed_given register customer) (length out.old) }
     ensures register_after { result.register ≡ close_left register customer (length out.old) }
     ensures out_after { out.new ≡ held (owed_given register customer) out.old }
 {
     let step = close_for(register, customer);
-    let owed = step.owed;
     if out.len() < 1 {
         return Changed {
             register,
-            number: give_owed(out, owed),
+            number: give_owed(out, step.owed),
         };
     }
-    let left = step.register;
     Changed {
-        register: left,
-        number: give_owed(out, owed),
+        register: step.register,
+        number: give_owed(out, step.owed),
     }
 }
