@@ -52,7 +52,7 @@ module _ (x : ℕ → ℤ) (marks n step stride : ℕ) (most : n ≤ 16) where
       ∙ mean-range (x (j * step)) (x (j * step + stride)) (x (j * step + 2 * stride))
       (bands (j * step) (omega arith)) (bands (j * step + stride) (omega arith)) (bands (j * step + 2 * stride) (omega arith)))
 
-len_is : (x : ℕ → ℤ) (marks n step stride : ℕ) → (means_of x marks n step stride).len ≡ n
+pub len_is : (x : ℕ → ℤ) (marks n step stride : ℕ) → (means_of x marks n step stride).len ≡ n
 unfolding means_of
 len_is x marks n step stride = refl
 
