@@ -16,11 +16,7 @@ fn number_of(set: u16) -> i32 {
 }
 
 fn numbers_of(sets: &[u16; 800]) -> [i32; 800] {
-    let mut numbers = [UNWRITTEN; 800];
-    for i in 0..800 {
-        numbers[i] = number_of(sets[i]);
-    }
-    numbers
+    sets.map(number_of)
 }
 
 // The place after the last one that was written.

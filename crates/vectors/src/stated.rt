@@ -34,7 +34,9 @@ fn said_intake(intake: Result<BandSet, Refusal>) -> Said {
 }
 
 fn said_cover(cover: Result<Cover, Refusal>) -> Said {
-    cover.map(|cover| cover.improvement.0).map_err(Refusal::number)
+    cover
+        .map(|cover| cover.improvement.0)
+        .map_err(Refusal::number)
 }
 
 fn said_graded(graded: Result<Grade, Refusal>) -> Said {
@@ -51,11 +53,7 @@ fn rate(case: Case, list: List) -> Said {
 fn rate_readings(case: Case, list: List) -> Said {
     match kind_of(natural(case, 1)) {
         None => Err(1),
-        Some(kind) => said_rated(desk::rate_readings(
-            kind,
-            readings_of(list),
-            length_of(case),
-        )),
+        Some(kind) => said_rated(desk::rate_readings(kind, readings_of(list), length_of(case))),
     }
 }
 

@@ -1,5 +1,0 @@
--- `cases::main` is safe and ends: the turns run out. Assumes nothing.
-use Rattle.cases.proofs.main.Given as goal
-
-abbrev pub decreases-loop-turns : goal.decreases-loop-turns
-decreases-loop-turns l = l.turns

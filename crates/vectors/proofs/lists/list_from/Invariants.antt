@@ -1,9 +1,0 @@
--- `vectors::lists::list_from` is safe and ends: the places of its arrays are passed once. Assumes nothing.
-use Rattle.std.proofs.Common.{◌-◌, ◌≤◌}
-use Rattle.vectors.proofs.lists.list_from.Given as goal
-
-abbrev pub invariant-loop-i : goal.invariant-loop-i
-invariant-loop-i l = l.i ≤ 144
-
-abbrev pub decreases-loop-i : goal.decreases-loop-i
-decreases-loop-i l = 144 - l.i
