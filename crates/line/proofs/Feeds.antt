@@ -17,7 +17,7 @@ use Rattle.answer.specs.Texts.{others, line_text, decimal, decimal_by, kind_text
 use Rattle.request.specs.Texts.{figure_text, level_text, band_text, Band, request_text}
 use Rattle.request.specs.Texts.Band.{missing, level}
 use Rattle.line.specs.Answers.{joined, lines_of}
-use Rattle.line.specs.Blocks.{one_more, feed_in, moved_by, after_feed}
+use Rattle.line.specs.Blocks.{one_more, feed_in, after_feed}
 use Rattle.line.proofs.Turns.{feed-cons}
 
 abbrev pub one_for : ℕ → ℕ
@@ -116,12 +116,17 @@ no-feed (b ∷ s) h = go (eqb b 10) refl (no-feed s)
     go true e r = absurd (omega (arith, ap (λ (t : Bool). cond t 1 0 + feeds s) (sym e) ∙ h))
     go false e r = feed-cons b s false e ∙ ap one_more (r (omega (arith, ap (λ (t : Bool). cond t 1 0 + feeds s) (sym e) ∙ h)))
 
+-- a line feed that is found behind k bytes; 0 where none is
+abbrev pub past : ℕ → ℕ → ℕ
+past k zero = 0
+past k (suc n) = k + suc n
+
 -- the first line feed of a text behind one that has none, or in front of another
-pub feed-behind : (s t : List ℕ) → feed_in s ≡ 0 → feed_in (s ++ t) ≡ moved_by (length s) (feed_in t)
+pub feed-behind : (s t : List ℕ) → feed_in s ≡ 0 → feed_in (s ++ t) ≡ past (length s) (feed_in t)
 unfolding feed_in
 feed-behind [] t h = nought (feed_in t)
   where
-    nought : (n : ℕ) → n ≡ moved_by 0 n
+    nought : (n : ℕ) → n ≡ past 0 n
     nought zero = refl
     nought (suc n) = omega arith
 feed-behind (b ∷ s) t h = go (eqb b 10) refl (feed-behind s t)
@@ -130,7 +135,7 @@ feed-behind (b ∷ s) t h = go (eqb b 10) refl (feed-behind s t)
     was-none zero e = refl
     was-none (suc n) e = absurd (omega arith)
 
-    shift : (n : ℕ) → one_more (moved_by (length s) n) ≡ moved_by (suc (length s)) n
+    shift : (n : ℕ) → one_more (past (length s) n) ≡ past (suc (length s)) n
     shift zero = refl
     shift (suc n) = one (length s) n
       where
@@ -140,7 +145,7 @@ feed-behind (b ∷ s) t h = go (eqb b 10) refl (feed-behind s t)
             regroup : (k n : ℕ) → k + suc n ≡ suc (k + n)
             regroup k n = omega arith
 
-    go : (t' : Bool) → eqb b 10 ≡ t' → (feed_in s ≡ 0 → feed_in (s ++ t) ≡ moved_by (length s) (feed_in t)) → feed_in (b ∷ (s ++ t)) ≡ moved_by (suc (length s)) (feed_in t)
+    go : (t' : Bool) → eqb b 10 ≡ t' → (feed_in s ≡ 0 → feed_in (s ++ t) ≡ past (length s) (feed_in t)) → feed_in (b ∷ (s ++ t)) ≡ past (suc (length s)) (feed_in t)
     go true e r = absurd (omega (arith, sym (feed-cons b s true e) ∙ h))
     go false e r = feed-cons b (s ++ t) false e ∙ ap one_more (r (was-none (feed_in s) (sym (feed-cons b s false e) ∙ h))) ∙ shift (feed_in t)
 
@@ -163,7 +168,7 @@ unfolding others feed_in
 others-end [] Plain.none = refl
 others-end (f ∷ fs) (Plain.more h p) =
     feed-cons 9 (f ++ others fs) false refl
-    ∙ ap one_more (feed-behind f (others fs) (no-feed f h) ∙ ap (moved_by (length f)) (others-end fs p))
+    ∙ ap one_more (feed-behind f (others fs) (no-feed f h) ∙ ap (past (length f)) (others-end fs p))
     ∙ go (length (others fs)) (some fs)
     ∙ ap suc (sym (length-append f (others fs)))
   where
@@ -171,7 +176,7 @@ others-end (f ∷ fs) (Plain.more h p) =
     some [] = omega arith
     some (g ∷ gs) = omega arith
 
-    go : (n : ℕ) → 0 < n → one_more (moved_by (length f) n) ≡ suc (length f + n)
+    go : (n : ℕ) → 0 < n → one_more (past (length f) n) ≡ suc (length f + n)
     go zero z = absurd (omega arith)
     go (suc n) z = ap one_more (regroup (length f) n) ∙ ap suc (sym (regroup (length f) n))
       where
@@ -182,14 +187,14 @@ pub request-end : (kind : Kind) (key : List ℕ) (bands : List Band) → KeyByte
 unfolding request_text line_text others
 request-end kind key bands k =
     feed-behind (kind_text kind) (others (key ∷ map band_text bands)) (no-feed (kind_text kind) (kind-feeds kind))
-    ∙ ap (moved_by (length (kind_text kind))) (others-end (key ∷ map band_text bands) (Plain.more (key-feeds key k) (bands-plain bands)))
+    ∙ ap (past (length (kind_text kind))) (others-end (key ∷ map band_text bands) (Plain.more (key-feeds key k) (bands-plain bands)))
     ∙ go (length (others (key ∷ map band_text bands))) (some key (map band_text bands))
     ∙ sym (length-append (kind_text kind) (others (key ∷ map band_text bands)))
   where
     some : (f : List ℕ) (fs : List (List ℕ)) → 0 < length (others (f ∷ fs))
     some f fs = omega arith
 
-    go : (n : ℕ) → 0 < n → moved_by (length (kind_text kind)) n ≡ length (kind_text kind) + n
+    go : (n : ℕ) → 0 < n → past (length (kind_text kind)) n ≡ length (kind_text kind) + n
     go zero z = absurd (omega arith)
     go (suc n) z = refl
 

@@ -67,7 +67,7 @@ unfolding rated_of
 rated-most k s = go (eqb s.len (bands_of k)) (accepted s (bands_of k)) refl
   where
     go : (a b : Bool) → accepted s (bands_of k) ≡ b
-        → length (others (fields_of (asked a (asked b (Ok (sheet_of k s)) (Err BandRange)) (Err BandCount)))) ≤ 29
+        → length (others (fields_of (asked a (asked b (Ok (sheet_of k s)) BandRange) BandCount))) ≤ 29
     go true true e = sheet-most k s e
     go true false e = refused-most BandRange
     go false b e = refused-most BandCount

@@ -18,17 +18,15 @@ use Rattle.request.specs.Texts.{Band, request_text}
 use Rattle.request.specs.Reading.{Asked, request_at, Request, request_of}
 use Rattle.request.specs.Reading.Asked.{asked}
 use Rattle.request.specs.Reading.Request.{request}
-use Rattle.reply.specs.Answers.{judged, answer_to, answer_of, no_reply, reply_to, reply_at, reply_text}
+use Rattle.reply.specs.Answers.{judged, answer_to, answer_of, reply_to, reply_at, reply_text}
 use Rattle.line.specs.Answers.{lines_of, answers_to, answers_of}
-use Rattle.line.specs.Blocks.{feed_in, moved_by, Step, step_at, Block, block_of, after_feed, answers_from, Run}
+use Rattle.line.specs.Blocks.{feed_in, Step, step_at, Block, block_of, after_feed, answers_from, Run}
 use Rattle.line.specs.Blocks.Run.{done, read, part, end}
 use Rattle.request.proofs.Stands.{Stands, taken}
 use Rattle.request.proofs.Wholes.{RequestAt, RequestGood, request-ok, request-here, part-stands, text-length, IsText, text_of, means}
-use Rattle.reply.proofs.Replies.{reply-none}
-use Rattle.line.proofs.Placing.{reply-text}
 use Rattle.line.proofs.Turns.{feed-most, piece_of, Found, found, Came, came}
 use Rattle.line.proofs.Runs.{by-turns}
-use Rattle.line.proofs.Feeds.{feeds, feeds-join, decimal-feeds, kind-feeds, key-feeds, minus-feeds, Plain, line-feeds, feed-before, feed-behind, request-end, lines-first, lines-last, lines-begun, after_none, after_first, rest_by}
+use Rattle.line.proofs.Feeds.{feeds, feeds-join, decimal-feeds, kind-feeds, key-feeds, minus-feeds, Plain, line-feeds, feed-before, past, feed-behind, request-end, lines-first, lines-last, lines-begun, after_none, after_first, rest_by}
 use Rattle.laws.proofs.Tests.{clash}
 use Rattle.std.specs.Prelude.{Result, Ok, Err, Option, Some, None}
 use Rattle.quantity.specs.declared.quantities.Decibels.{Decibels}
@@ -100,7 +98,7 @@ module _ (s : List ℕ) (at : ℕ) where
         (record { is = refl; key-ok = g.key-ok; bands-ok = g.bands-ok; some = g.some; short = omega (arith, g.ends) }))
 
   -- where none is found, the first line is none
-  none-there : (w : ℕ) → feed_in (drop at s) ≡ suc w → at ≤ length s → (reply_at s at).next ≡ 0 → answer_of (take (suc w) (drop at s)) ≡ no_request_text
+  none-there : (w : ℕ) → feed_in (drop at s) ≡ suc w → at ≤ length s → reply_at s at ≡ None → answer_of (take (suc w) (drop at s)) ≡ no_request_text
   unfolding reply_at reply_to
   none-there w f h z = no-request (take (suc w) (drop at s)) refused
     where
@@ -110,11 +108,11 @@ module _ (s : List ℕ) (at : ℕ) where
           let stands : Stands s at (request_text kind key bands) = subst (Stands s at) t.is (part-stands (suc w) s at (omega (arith, feed-most (drop at s), length-drop at s))) in
           let n : ℕ = at + length (request_text kind key bands) in
           let e : request_at s at ≡ asked kind key bands n = request-here s at kind key bands t.key-ok t.bands-ok t.some stands in
-          let found : (reply_to at (request_at s at)).next ≡ n =
-          ap (λ (a : Asked). (reply_to at a).next) e
-          ∙ ap (λ (b : Bool). (cond b (record { next = n; kind = kind; key = at + 3; len = length key; rated = judged kind bands }) no_reply).next)
+          let found : reply_to at (request_at s at) ≡ Some (record { next = n; kind = kind; key = at + 3; len = length key; rated = judged kind bands }) =
+          ap (reply_to at) e
+          ∙ ap (λ (b : Bool). cond b (Some (record { next = n; kind = kind; key = at + 3; len = length key; rated = judged kind bands })) None)
           (le-leb n (at + 512) (omega (arith, t.short, ap length t.is))) in
-          omega (arith, found, z, text-length kind key bands)
+          cc
 
 -- ---- one turn, whatever follows the part
 answers-cons : (l : List ℕ) (ls : List (List ℕ)) → answers_to (l ∷ ls) ≡ answer_of l ++ answers_to ls
@@ -147,34 +145,34 @@ module _ (s : List ℕ) (at : ℕ) (F : List ℕ) where
     pub behind : answers_of rest ≡ answers_from p.skipping (drop p.next s ++ F)
 
   -- a request
-  request-first : (a : Asked) → RequestGood s at a → ((reply_to at a).next ≡ 0 → ⊥)
-      → First (reply_text s (reply_to at a)) (record { next = (reply_to at a).next; skipping = false })
-  unfolding reply_to
-  request-first Asked.nothing g z = absurd (z refl)
-  request-first (asked kind key bands next) g z = go (leb next (at + 512)) refl z
+  request-first : (a : Asked) → RequestGood s at a → (r : Reply) → reply_to at a ≡ Some r → First (reply_text s (Some r)) (record { next = r.next; skipping = false })
+  unfolding reply_to reply_text
+  request-first Asked.nothing g r z = cc
+  request-first (asked kind key bands next) g r z = go (leb next (at + 512)) refl z
     where
       reply : Reply
       reply = record { next = next; kind = kind; key = at + 3; len = length key; rated = judged kind bands }
 
-      go : (t : Bool) → leb next (at + 512) ≡ t → ((cond t reply no_reply).next ≡ 0 → ⊥)
-          → First (reply_text s (cond t reply no_reply)) (record { next = (cond t reply no_reply).next; skipping = false })
-      go true e z = record {
-        line = request_text kind key bands;
-        rest = drop next s ++ F;
-        lines = first-line s at kind key bands next g F;
-        answer = answer-there s at kind key bands next g (leb-true next (at + 512) e)
-            ∙ ap (λ (l : List ℕ). rated_text kind l (judged kind bands)) g.key-is
-            ∙ sym (reply-text s reply z);
-        behind = refl;
-      }
-      go false e z = absurd (z refl)
+      go : (t : Bool) → leb next (at + 512) ≡ t → cond t (Some reply) None ≡ Some r → First (reply_text s (Some r)) (record { next = r.next; skipping = false })
+      go true e z =
+          let same : reply ≡ r = cc in
+          subst (λ (x : Reply). First (reply_text s (Some x)) (record { next = x.next; skipping = false })) same
+          (record {
+            line = request_text kind key bands;
+            rest = drop next s ++ F;
+            lines = first-line s at kind key bands next g F;
+            answer = answer-there s at kind key bands next g (leb-true next (at + 512) e) ∙ ap (λ (l : List ℕ). rated_text kind l (judged kind bands)) g.key-is;
+            behind = refl;
+          })
+      go false e z = cc
 
-  reply-first : ((reply_at s at).next ≡ 0 → ⊥) → First (reply_text s (reply_at s at)) (record { next = (reply_at s at).next; skipping = false })
+  reply-first : (r : Reply) → reply_at s at ≡ Some r → First (reply_text s (reply_at s at)) (record { next = r.next; skipping = false })
   unfolding reply_at
-  reply-first z = request-first (request_at s at) (request-ok s at) z
+  reply-first r e =
+      subst (λ (o : Option Reply). First (reply_text s o) (record { next = r.next; skipping = false })) (sym e) (request-first (request_at s at) (request-ok s at) r e)
 
   -- a line that is none
-  none_first : at ≤ length s → (reply_at s at).next ≡ 0 → (w : ℕ) → feed_in (drop at s) ≡ suc w → First no_request_text (record { next = at + suc w; skipping = false })
+  none_first : at ≤ length s → reply_at s at ≡ None → (w : ℕ) → feed_in (drop at s) ≡ suc w → First no_request_text (record { next = at + suc w; skipping = false })
   none_first h z w f = record {
     line = take (suc w) (drop at s);
     rest = drop (at + suc w) s ++ F;
@@ -202,9 +200,9 @@ module _ (s : List ℕ) (at : ℕ) (F : List ℕ) where
         where
           refused : (n : ℕ) → feed_in (rest_by (feed_in F) F) ≡ n → (kind : Kind) (key : List ℕ) (bands : List Band) → IsText (b ∷ (l ++ rest_by (feed_in F) F)) kind key bands → ⊥
           refused zero q kind key bands t =
-              omega (arith, text-feed (b ∷ (l ++ rest_by (feed_in F) F)) kind key bands t, feed-behind (b ∷ l) (rest_by (feed_in F) F) f ∙ ap (moved_by (suc (length l))) q)
+              omega (arith, text-feed (b ∷ (l ++ rest_by (feed_in F) F)) kind key bands t, feed-behind (b ∷ l) (rest_by (feed_in F) F) f ∙ ap (past (suc (length l))) q)
           refused (suc n) q kind key bands t =
-              omega (arith, text-feed (b ∷ (l ++ rest_by (feed_in F) F)) kind key bands t, feed-behind (b ∷ l) (rest_by (feed_in F) F) f ∙ ap (moved_by (suc (length l))) q, t.short)
+              omega (arith, text-feed (b ∷ (l ++ rest_by (feed_in F) F)) kind key bands t, feed-behind (b ∷ l) (rest_by (feed_in F) F) f ∙ ap (past (suc (length l))) q, t.short)
 
   -- what is left when the input ends
   last-first : F ≡ [] → feed_in (drop at s) ≡ 0 → at < length s → First no_request_text (record { next = length s; skipping = false })
@@ -224,13 +222,14 @@ module _ (s : List ℕ) (at : ℕ) (F : List ℕ) where
   -- the next piece
   pub piece-first : (last : Bool) → at < length s → (last ≡ true → F ≡ []) → ((piece_of s at last).next ≡ at → ⊥)
       → First (reply_text s (reply_at s at)) (piece_of s at last)
+  unfolding reply_text
   piece-first last h e = go (found s at last)
     where
-      no-reply : {p : Piece} → (reply_at s at).next ≡ 0 → First no_request_text p → First (reply_text s (reply_at s at)) p
-      no-reply {p = p} z f = subst (λ (x : List ℕ). First x p) (sym (reply-none s (reply_at s at) z)) f
+      no-reply : {p : Piece} → reply_at s at ≡ None → First no_request_text p → First (reply_text s (reply_at s at)) p
+      no-reply {p = p} z f = subst (λ (x : List ℕ). First x p) (sym (ap (reply_text s) z)) f
 
       go : {p : Piece} → Found s at last p → (p.next ≡ at → ⊥) → First (reply_text s (reply_at s at)) p
-      go (Found.request z) n = reply-first z
+      go (Found.request r z) n = reply-first r z
       go (Found.line w z f) n = no-reply z (none_first (omega arith) z w f)
       go (Found.long z f l) n = no-reply z (long-first f (omega (arith, length-drop at s)))
       go (Found.rest z f l) n = no-reply z (last-first (e l) f h)

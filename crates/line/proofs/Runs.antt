@@ -8,11 +8,11 @@ use borrow.Author.Tests.{lt-ltb, le-ltb, eq-eqb, ne_eqb, eqb-false, ltb-true, lt
 use lib.Dec.{ltb, eqb}
 use lib.ListN.{length, take, drop, length-append, length-drop}
 use lib.Seq.{take_at, drop-append-add, drop-drop}
-use Rattle.line.specs.declared.blocks.Turn.{Turn}
+use Rattle.line.specs.declared.blocks.Progress.{Progress}
 use Rattle.laws.specs.Lists.{front}
 use Rattle.line.specs.Blocks.{Step, step_at, Block, block_from, block_of, Turned, Answered}
 use Rattle.laws.proofs.Fronts.{front_length}
-use Rattle.line.proofs.Turns.{piece-ahead, none-placed, feed-most, Came, came}
+use Rattle.line.proofs.Turns.{piece-ahead, none_placed, feed-most, Came, came}
 
 -- a step lies ahead, and within
 step-ahead : (s : List ℕ) (at room : ℕ) (skipping last : Bool) → at ≤ length s
@@ -99,17 +99,17 @@ module _ (s : List ℕ) (room : ℕ) (last : Bool) (P : ℕ → List ℕ → Boo
           (on at text skip (block_from n s room step.next (text ++ step.text) step.skipping last) (ltb-true at (length s) p) ahead (r b.1 (omega arith)))
 
 -- what the loop holds
-pub record Going (s l : List ℕ) (skip₀ last : Bool) (used wrote : ℕ) (skip : Bool) (out : List ℕ) : Type 0 where
+pub record Going (s l : List ℕ) (skip last : Bool) (done : Progress) (out : List ℕ) : Type 0 where
   pub text : List ℕ
   pub fuel : ℕ
-  pub same : block_of s (length l) skip₀ last ≡ block_from fuel s (length l) used text skip last
-  pub enough : length s ≤ used + fuel
-  pub within : used ≤ length s
-  pub wrote-is : wrote ≡ length text
+  pub same : block_of s (length l) skip last ≡ block_from fuel s (length l) done.used text done.skipping last
+  pub enough : length s ≤ done.used + fuel
+  pub within : done.used ≤ length s
+  pub wrote-is : done.wrote ≡ length text
   pub fits : length text ≤ length l
   pub out-is : out ≡ front text l
 
-pub going_start : (s l : List ℕ) (skip last : Bool) → Going s l skip last 0 0 skip l
+pub going_start : (s l : List ℕ) (skip last : Bool) → Going s l skip last (record { used = 0; wrote = 0; skipping = skip }) l
 unfolding block_of
 going_start s l skip last = record {
   text = [];
@@ -122,31 +122,31 @@ going_start s l skip last = record {
   out-is = refl;
 }
 
-pub going-length : {s l : List ℕ} {skip₀ last : Bool} {used wrote : ℕ} {skip : Bool} {out : List ℕ} → Going s l skip₀ last used wrote skip out → length out ≡ length l
+pub going-length : {s l : List ℕ} {skip last : Bool} {done : Progress} {out : List ℕ} → Going s l skip last done out → length out ≡ length l
 going-length {l = l} g = ap length g.out-is ∙ front_length g.text l g.fits
 
-module _ {s l : List ℕ} {skip₀ last : Bool} {used wrote : ℕ} {skip : Bool} {out : List ℕ} (g : Going s l skip₀ last used wrote skip out) where
-  same-room : length out - wrote ≡ length l - length g.text
+module _ {s l : List ℕ} {skip last : Bool} {done : Progress} {out : List ℕ} (g : Going s l skip last done out) where
+  same-room : length out - done.wrote ≡ length l - length g.text
   same-room = omega (arith, going-length g, g.wrote-is)
 
-  pub going-room : wrote ≤ length out
+  pub going-room : done.wrote ≤ length out
   going-room = omega (arith, going-length g, g.wrote-is, g.fits)
 
   abbrev now_step : Step
-  now_step = step_at s used (length out - wrote) skip last
+  now_step = step_at s done.used (length out - done.wrote) done.skipping last
 
   then-step : Step
-  then-step = step_at s used (length l - length g.text) skip last
+  then-step = step_at s done.used (length l - length g.text) done.skipping last
 
   steps : now_step ≡ then-step
   unfolding then-step
-  steps = ap (λ (k : ℕ). step_at s used k skip last) same-room
+  steps = ap (λ (k : ℕ). step_at s done.used k done.skipping last) same-room
 
   -- an end: nothing left, or a turn that takes nothing
-  ended : (x : Block) → block_of s (length l) skip₀ last ≡ x → x ≡ record { used = used; text = g.text; skipping = skip }
-      → Answered (block_of s (length l) skip₀ last) s l (record { used = used; wrote = wrote; skipping = skip }) out
+  ended : (x : Block) → block_of s (length l) skip last ≡ x → x ≡ record { used = done.used; text = g.text; skipping = done.skipping }
+      → Answered (block_of s (length l) skip last) s l done out
   ended x e f =
-      subst (λ (b : Block). Answered b s l (record { used = used; wrote = wrote; skipping = skip }) out) (sym (e ∙ f))
+      subst (λ (b : Block). Answered b s l done out) (sym (e ∙ f))
       (record {
         used = refl;
         wrote = g.wrote-is;
@@ -156,40 +156,40 @@ module _ {s l : List ℕ} {skip₀ last : Bool} {used wrote : ℕ} {skip : Bool}
         fits = omega (arith, g.wrote-is, g.fits);
       })
 
-  pub going-out : length s ≤ used → Answered (block_of s (length l) skip₀ last) s l (record { used = used; wrote = wrote; skipping = skip }) out
-  going-out h = ended (block_from g.fuel s (length l) used g.text skip last) g.same (block_out s (length l) used g.text skip last g.fuel h)
+  pub going-out : length s ≤ done.used → Answered (block_of s (length l) skip last) s l done out
+  going-out h = ended (block_from g.fuel s (length l) done.used g.text done.skipping last) g.same (block_out s (length l) done.used g.text done.skipping last g.fuel h)
 
-  module _ {r : Turn} {after : List ℕ} (t : Turned now_step out wrote r after) where
-    pub kept : r.next ≡ used → out ≡ after
+  module _ {r : Progress} {after : List ℕ} (t : Turned now_step out done.wrote r after) where
+    pub kept : r.used ≡ done.used → out ≡ after
     kept e =
-        none-placed out wrote
-        ∙ ap (λ (x : List ℕ). take wrote out ++ (x ++ drop (wrote + length x) out)) (sym (still-text s used (length out - wrote) skip last (sym t.next ∙ e)))
+        none_placed out done.wrote
+        ∙ ap (λ (x : List ℕ). take done.wrote out ++ (x ++ drop (done.wrote + length x) out)) (sym (still-text s done.used (length out - done.wrote) done.skipping last (sym t.used ∙ e)))
         ∙ sym t.out
 
-    pub going-still : r.next ≡ used → Answered (block_of s (length l) skip₀ last) s l (record { used = used; wrote = wrote; skipping = skip }) after
+    pub going-still : r.used ≡ done.used → Answered (block_of s (length l) skip last) s l done after
     unfolding then-step
     going-still e =
-        subst (λ (x : List ℕ). Answered (block_of s (length l) skip₀ last) s l (record { used = used; wrote = wrote; skipping = skip }) x) (kept e)
-        (ended (block_from g.fuel s (length l) used g.text skip last) g.same
-        (block-still s (length l) used g.text skip last g.fuel (sym (ap (λ (x : Step). x.next) steps) ∙ sym t.next ∙ e)))
+        subst (λ (x : List ℕ). Answered (block_of s (length l) skip last) s l done x) (kept e)
+        (ended (block_from g.fuel s (length l) done.used g.text done.skipping last) g.same
+        (block-still s (length l) done.used g.text done.skipping last g.fuel (sym (ap (λ (x : Step). x.next) steps) ∙ sym t.used ∙ e)))
 
-    pub turn-ahead : (r.next ≡ used → ⊥) → (used < r.next) × (r.next ≤ length s)
+    pub turn-ahead : (r.used ≡ done.used → ⊥) → (done.used < r.used) × (r.used ≤ length s)
     turn-ahead f =
-        let b = step-ahead s used (length out - wrote) skip last g.within in
-        (omega (arith, t.next), omega (arith, t.next))
+        let b = step-ahead s done.used (length out - done.wrote) done.skipping last g.within in
+        (omega (arith, t.used), omega (arith, t.used))
 
-    pub going_on : used < length s → (r.next ≡ used → ⊥) → Going s l skip₀ last r.next r.wrote r.skipping after
+    pub going_on : done.used < length s → (r.used ≡ done.used → ⊥) → Going s l skip last r after
     unfolding then-step
     going_on h f =
         let n = fuels g.fuel refl in
         record {
           text = g.text ++ now_step.text;
           fuel = n.0;
-          same = g.same ∙ ap (λ (k : ℕ). block_from k s (length l) used g.text skip last) n.1
-              ∙ block_on s (length l) used g.text skip last n.0 h (λ q. f (t.next ∙ ap (λ (x : Step). x.next) steps ∙ q))
+          same = g.same ∙ ap (λ (k : ℕ). block_from k s (length l) done.used g.text done.skipping last) n.1
+              ∙ block_on s (length l) done.used g.text done.skipping last n.0 h (λ q. f (t.used ∙ ap (λ (x : Step). x.next) steps ∙ q))
               ∙ ap (λ (x : Step). block_from n.0 s (length l) x.next (g.text ++ x.text) x.skipping last) (sym steps)
-              ∙ ap (λ (k : ℕ). block_from n.0 s (length l) k (g.text ++ now_step.text) now_step.skipping last) (sym t.next)
-              ∙ ap (λ (b : Bool). block_from n.0 s (length l) r.next (g.text ++ now_step.text) b last) (sym t.skipping);
+              ∙ ap (λ (k : ℕ). block_from n.0 s (length l) k (g.text ++ now_step.text) now_step.skipping last) (sym t.used)
+              ∙ ap (λ (b : Bool). block_from n.0 s (length l) r.used (g.text ++ now_step.text) b last) (sym t.skipping);
           enough = omega (arith, n.1, g.enough, turn-ahead f);
           within = (turn-ahead f).1;
           wrote-is = omega (arith, t.wrote-is, g.wrote-is, length-append g.text now_step.text);
@@ -201,10 +201,10 @@ module _ {s l : List ℕ} {skip₀ last : Bool} {used wrote : ℕ} {skip : Bool}
         fuels zero e = absurd (omega (arith, g.enough))
         fuels (suc m) e = (m, e)
 
-        home : take wrote out ++ (now_step.text ++ drop (wrote + length now_step.text) out) ≡ front (g.text ++ now_step.text) l
+        home : take done.wrote out ++ (now_step.text ++ drop (done.wrote + length now_step.text) out) ≡ front (g.text ++ now_step.text) l
         home =
-            ap (λ (x : List ℕ). take wrote x ++ (now_step.text ++ drop (wrote + length now_step.text) x)) g.out-is
-            ∙ ap (λ (x : List ℕ). x ++ (now_step.text ++ drop (wrote + length now_step.text) (front g.text l))) (take_at g.text (drop (length g.text) l) wrote (sym g.wrote-is))
+            ap (λ (x : List ℕ). take done.wrote x ++ (now_step.text ++ drop (done.wrote + length now_step.text) x)) g.out-is
+            ∙ ap (λ (x : List ℕ). x ++ (now_step.text ++ drop (done.wrote + length now_step.text) (front g.text l))) (take_at g.text (drop (length g.text) l) done.wrote (sym g.wrote-is))
             ∙ ap (λ (k : ℕ). g.text ++ (now_step.text ++ drop (k + length now_step.text) (front g.text l))) g.wrote-is
             ∙ ap (λ (x : List ℕ). g.text ++ (now_step.text ++ x)) (drop-append-add g.text (drop (length g.text) l) (length now_step.text) ∙ drop-drop (length now_step.text) (length g.text) l)
             ∙ sym (append_assoc g.text now_step.text (drop (length g.text + length now_step.text) l))

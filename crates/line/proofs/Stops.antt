@@ -3,6 +3,7 @@
 -- run out. And two outcomes that its promise allows coincide. Assumes nothing.
 use mathlib.Core.Path.{◌≡◌, refl, sym, ◌∙◌, ap, subst}
 use mathlib.Core.Bool.{Bool, true, false}
+use Rattle.std.specs.Prelude.{None}
 use mathlib.Core.List.{List, [], ◌∷◌, ◌++◌}
 use Prim.Native.Nat.{ℕ, ◌+◌, ◌-◌, ◌≤◌, ◌<◌}
 use native.Mathlib.Omega.{arith}
@@ -13,9 +14,9 @@ use Rattle.request.specs.Reading.{Asked, request_at}
 use Rattle.request.specs.Reading.Asked.{asked}
 use Rattle.reply.specs.Answers.{answer_of, reply_to, reply_at}
 use Rattle.line.specs.Answers.{lines_of}
-use Rattle.line.specs.Blocks.{feed_in, moved_by, feed_after, Step, step_at, Block, block_of, Answered}
+use Rattle.line.specs.Blocks.{feed_in, Step, step_at, Block, block_of, Answered}
 use Rattle.request.proofs.Wholes.{RequestGood, request-ok, text-length}
-use Rattle.line.proofs.Turns.{piece-wait, reply-ahead, piece_of, Found, found, Came, came}
+use Rattle.line.proofs.Turns.{reply-ahead, piece_of, Found, found, Came, came}
 use Rattle.line.proofs.Runs.{by-turns}
 use Rattle.line.proofs.Meaning.{feed-there, piece-first}
 use Rattle.line.proofs.Lengths.{answer-short}
@@ -46,26 +47,29 @@ pub data Stop (s : List ℕ) (room : ℕ) (last : Bool) (b : Block) : Type 0 whe
 -- ---- a piece stays where no whole line is, and nowhere else
 module _ (s : List ℕ) (at : ℕ) (last : Bool) (some : at < length s) where
   -- without a line feed there is no request
-  none_read : feed_in (drop at s) ≡ 0 → (reply_at s at).next ≡ 0
+  none_read : feed_in (drop at s) ≡ 0 → reply_at s at ≡ None
   unfolding reply_at reply_to
   none_read f = go (request_at s at) (request-ok s at)
     where
-      go : (a : Asked) → RequestGood s at a → (reply_to at a).next ≡ 0
+      go : (a : Asked) → RequestGood s at a → reply_to at a ≡ None
       go Asked.nothing g = refl
       go (asked kind key bands next) g = absurd (omega (arith, feed-there s at kind key bands next g, text-length kind key bands))
 
   waits-still : Waiting (drop at s) false last → (piece_of s at last).next ≡ at
-  unfolding feed_after
-  waits-still w =
-      sym (ap (λ (p : Piece). p.next)
-      (piece-wait s at last (reply_at s at).next (none_read w.no-feed) 0 (ap (moved_by at) (sym w.no-feed)) refl (omega arith)
-      (omega (arith, w.short, length-drop at s)) w.open-end))
+  waits-still w = go (found s at last)
+    where
+      go : {p : Piece} → Found s at last p → p.next ≡ at
+      go (Found.request r e) = let z = none_read w.no-feed in cc
+      go (Found.line v z f) = absurd (omega (arith, f, w.no-feed))
+      go (Found.long z f l) = absurd (omega (arith, w.short, length-drop at s))
+      go (Found.rest z f l) = let o = w.open-end in cc
+      go (Found.none f l q) = refl
 
   still-waits : (piece_of s at last).next ≡ at → Waiting (drop at s) false last
   still-waits = go (found s at last)
     where
       go : {p : Piece} → Found s at last p → p.next ≡ at → Waiting (drop at s) false last
-      go (Found.request z) e = absurd (omega (arith, reply-ahead s at z))
+      go (Found.request r z) e = absurd (omega (arith, reply-ahead s at r z))
       go (Found.line w z f) e = absurd (omega arith)
       go (Found.long z f l) e = absurd (omega arith)
       go (Found.rest z f l) e = absurd (omega arith)

@@ -1,7 +1,6 @@
 -- A run in parts: what one block call answers, and what it carries on.
 use Rattle.std.specs.Prelude.{Bool, true, false, cond, List, [], ◌∷◌, ◌++◌, ◌≡◌, ℕ, zero, suc, ◌+◌, ◌-◌, ◌≤◌, leb, ltb, eqb, length, take, drop, Option, None, Some, option_map}
 use Rattle.line.specs.declared.blocks.Piece.{Piece}
-use Rattle.line.specs.declared.blocks.Turn.{Turn}
 use Rattle.line.specs.declared.blocks.Progress.{Progress}
 use Rattle.answer.specs.Texts.{line_feed}
 use Rattle.reply.specs.Answers.{reply_at, reply_text}
@@ -85,8 +84,8 @@ unfoldable pub block_of : List ℕ → ℕ → Bool → Bool → Block
 block_of s room skipping last = block_from (length s) s room 0 [] skipping last
 
 -- what the code makes of a step, and of a block: its text stands in the output behind what was written before, the rest is kept
-pub record Turned (step : Step) (before : List ℕ) (wrote : ℕ) (r : Turn) (after : List ℕ) : Type 0 where
-  pub next : r.next ≡ step.next
+pub record Turned (step : Step) (before : List ℕ) (wrote : ℕ) (r : Progress) (after : List ℕ) : Type 0 where
+  pub used : r.used ≡ step.next
   pub wrote-is : r.wrote ≡ wrote + length step.text
   pub skipping : r.skipping ≡ step.skipping
   pub out : after ≡ take wrote before ++ (step.text ++ drop (wrote + length step.text) before)

@@ -13,14 +13,6 @@ pub struct Piece {
     pub skipping: bool,
 }
 
-// After one turn: how far the input and the output have come, and whether a long line is being skipped.
-#[derive(Clone, Copy)]
-pub struct Turn {
-    pub next: usize,
-    pub wrote: usize,
-    pub skipping: bool,
-}
-
 // How much of the part was used, how many bytes were written, and whether a long line that was answered goes on.
 #[derive(Clone, Copy)]
 pub struct Progress {
@@ -30,6 +22,7 @@ pub struct Progress {
 }
 
 // The position after the first line feed from a position on, if there is one.
+#[tactic(auto, using(crate::proofs::Turns::feed_by))]
 fn feed_after(s: &[u8], at: usize) -> Option<usize>
     ensures { result ≡ feed_after s.now at }
 {
@@ -42,114 +35,69 @@ fn feed_after(s: &[u8], at: usize) -> Option<usize>
 }
 
 // The next piece that asks for an answer. A request that was read there ends at `next`.
+#[tactic(auto, unfolding(crate::specs::Blocks::piece_at))]
 fn piece_at(s: &[u8], at: usize, last: bool, next: Option<usize>) -> Piece
     requires { at ≤ length s.now }
     ensures { result ≡ piece_at s.now at last next }
 {
-    if let Some(next) = next {
+    if let Some(next) = next.or_else(|| feed_after(s, at)) {
         return Piece {
             next,
             skipping: false,
         };
     }
-    if let Some(next) = feed_after(s, at) {
-        return Piece {
-            next,
-            skipping: false,
-        };
-    }
-    if 512 <= s.len() - at {
-        return Piece {
-            next: s.len(),
-            skipping: true,
-        };
-    }
-    if last {
-        return Piece {
-            next: s.len(),
-            skipping: false,
-        };
-    }
-    Piece {
-        next: at,
-        skipping: false,
-    }
+    let skipping = 512 <= s.len() - at;
+    let next = if skipping || last { s.len() } else { at };
+    Piece { next, skipping }
 }
 
-// One turn: skip to the line feed, or answer the next piece if there is room.
-fn turn_at(
-    s: &[u8],
-    at: usize,
-    out: &mut [u8],
-    wrote: usize,
-    skipping: bool,
-    last: bool,
-    tables: RatingTables,
-) -> Turn
-    requires at_in_bounds { at ≤ length s.now }
-    requires wrote_in_bounds { wrote ≤ length out.old }
-    ensures { Turned (step_at s.now at (length out.old - wrote) skipping last) out.old wrote result out.new }
+// One turn: skip to the line feed, or answer the next piece if there is room. Without one, nothing is done.
+#[tactic(auto, using(crate::proofs::Turns::none_placed), unfolding(crate::specs::Blocks::step_at, crate::specs::Answers::fits_at, crate::specs::Answers::placed, crate::specs::Answers::wrote_of))]
+fn turn_at(s: &[u8], out: &mut [u8], done: Progress, last: bool, tables: RatingTables) -> Progress
+    requires used_in_bounds { done.used ≤ length s.now }
+    requires wrote_in_bounds { done.wrote ≤ length out.old }
+    ensures { Turned (step_at s.now done.used (length out.old - done.wrote) done.skipping last) out.old done.wrote result out.new }
 {
-    if skipping {
-        return match feed_after(s, at) {
-            None => Turn {
-                next: s.len(),
-                wrote,
-                skipping: true,
-            },
-            Some(next) => Turn {
-                next,
-                wrote,
-                skipping: false,
-            },
+    let at = done.used;
+    if done.skipping {
+        let end = feed_after(s, at);
+        return Progress {
+            used: end.unwrap_or(s.len()),
+            skipping: end.is_none(),
+            ..done
         };
     }
     let reply = reply_at(s, at, tables);
     let piece = piece_at(s, at, last, reply.map(|r| r.next));
-    let next = piece.next;
-    if next != at {
-        if let Ok(n) = answer_at(s, reply, out, wrote) {
-            return Turn {
-                next,
-                wrote: wrote + n,
-                skipping: piece.skipping,
-            };
-        }
+    if piece.next != at
+        && let Ok(n) = answer_at(s, reply, out, done.wrote)
+    {
+        return Progress {
+            used: piece.next,
+            wrote: done.wrote + n,
+            skipping: piece.skipping,
+        };
     }
-    Turn {
-        next: at,
-        wrote,
-        skipping: false,
-    }
+    done
 }
 
-// All turns, with the tables lent.
-fn turns(
-    input: &[u8],
-    out: &mut [u8],
-    skipping: bool,
-    last: bool,
-    tables: RatingTables,
-) -> Progress
+// All turns, with the tables lent, until one does nothing.
+fn turns(input: &[u8], out: &mut [u8], skipping: bool, last: bool, tables: RatingTables) -> Progress
     ensures { Answered (block_of input.now (length out.old) skipping last) input.now out.old result out.new }
 {
-    let mut used = 0usize;
-    let mut wrote = 0usize;
-    let mut skip = skipping;
-    while used < input.len() {
-        let t = turn_at(input, used, out, wrote, skip, last, tables);
-        if t.next == used {
+    let mut done = Progress {
+        used: 0,
+        wrote: 0,
+        skipping,
+    };
+    while done.used < input.len() {
+        let next = turn_at(input, out, done, last, tables);
+        if next.used == done.used {
             break;
         }
-        used = t.next;
-        wrote = t.wrote;
-        skip = t.skipping;
+        done = next;
     }
-    Progress {
-        used,
-        wrote,
-        skipping: skip,
-    }
+    done
 }
 
 // Answers the whole lines of a part of the input for which the output has room, in order. `skipping` is what the call before

@@ -10,6 +10,7 @@ use quantity::Refusal;
 use reply::{Reply, reply_at};
 
 // How long an answer is.
+#[tactic(auto, using(reply::proofs::Replies::reply_lengths))]
 fn reply_len(s: &[u8], reply: Option<Reply>) -> usize
     requires { IfSome reply (Keyed s.now) }
     ensures { result ≡ length (reply_text s.now reply) }
@@ -21,6 +22,7 @@ fn reply_len(s: &[u8], reply: Option<Reply>) -> usize
 }
 
 // The whole answer, at the front of the tail that is lent.
+#[tactic(auto, using(reply::proofs::Replies::reply_lengths), unfolding(reply::specs::Answers::reply_text))]
 fn put_reply(s: &[u8], reply: Option<Reply>, out: &mut [u8])
     requires keyed { IfSome reply (Keyed s.now) }
     requires room { length (reply_text s.now reply) ≤ length out.old }
@@ -36,6 +38,7 @@ fn put_reply(s: &[u8], reply: Option<Reply>, out: &mut [u8])
 }
 
 // Writes an answer at an offset of the output, if there is room: how many bytes it took.
+#[tactic(auto, unfolding(crate::specs::Answers::fits_at, crate::specs::Answers::placed, crate::specs::Answers::wrote_of))]
 pub fn answer_at(
     s: &[u8],
     reply: Option<Reply>,
@@ -60,12 +63,7 @@ fn line_reply(line: &[u8]) -> Option<Reply>
     ensures keyed { IfSome result (Keyed line.now) }
 {
     let cells = tables();
-    let reply = reply_at(line, 0, RatingTables::for_one(&cells))?;
-    if reply.next == line.len() {
-        Some(reply)
-    } else {
-        None
-    }
+    reply_at(line, 0, RatingTables::for_one(&cells)).filter(|reply| reply.next == line.len())
 }
 
 // Answers one line, with its line feed, from an offset of the output: the answer, or 11 for what is no request. Bytes before
@@ -74,6 +72,5 @@ pub fn answer_line(line: &[u8], out: &mut [u8], at: usize) -> Result<usize, Refu
     ensures value { result ≡ wrote_of out.old at (answer_of line.now) }
     ensures out_after { out.new ≡ placed out.old at (answer_of line.now) }
 {
-    let reply = line_reply(line);
-    answer_at(line, reply, out, at)
+    answer_at(line, line_reply(line), out, at)
 }

@@ -22,7 +22,8 @@ use Rattle.kinds.specs.Kinds.{bands_of}
 use Rattle.rating.specs.Sheets.{rated_of}
 use Rattle.request.specs.declared.bands.Gathered.{Gathered}
 use Rattle.reply.specs.declared.requests.Reply.{Reply}
-use Rattle.answer.specs.Texts.{others, line_text, kind_text, fields_of, rated_text, no_request_text}
+use Rattle.answer.specs.Texts.{others, line_text, kind_text, fields_of, rated_text}
+use Rattle.answer.proofs.Writers.{none-length}
 use Rattle.request.specs.Texts.{Band, request_text}
 use Rattle.request.specs.Texts.Band.{missing, level}
 use Rattle.request.specs.Reading.{Bands, bands_at, key_span, kind_at, Asked, with_bands, with_key, request_at}
@@ -136,9 +137,9 @@ kind-inside s at k e = go k (subst (KindGood s at) e (kind_ok s at))
     go I1 h = omega (arith, h.1.0.within)
 
 -- the key of a reply stands within the line
-pub reply-keyed : (s : List ℕ) (at : ℕ) (r : Reply) → Some r ≡ reply_at s at → Keyed s r
+pub reply_keyed : (s : List ℕ) (at : ℕ) → IfSome (reply_at s at) (Keyed s)
 unfolding reply_at reply_to
-reply-keyed s at r e = subst (λ (o : Option Reply). IfSome o (Keyed s)) (sym e) (go (request_at s at) (request-ok s at))
+reply_keyed s at = go (request_at s at) (request-ok s at)
   where
     go : (a : Asked) → RequestGood s at a → IfSome (reply_to at a) (Keyed s)
     go Asked.nothing g = tt
@@ -152,9 +153,9 @@ reply-keyed s at r e = subst (λ (o : Option Reply). IfSome o (Keyed s)) (sym e)
         by-test false = tt
 
 -- the text of a reply, and how long it is
-pub reply-none : (s : List ℕ) → reply_text s None ≡ no_request_text
+pub reply-none : (s : List ℕ) → length (reply_text s None) ≡ 7
 unfolding reply_text
-reply-none s = refl
+reply-none s = sym none-length
 
 module _ (s : List ℕ) (r : Reply) where
   abbrev head_text : List ℕ
@@ -171,3 +172,5 @@ module _ (s : List ℕ) (r : Reply) where
 
   pub reply-length : Keyed s r → length (reply_text s (Some r)) ≡ 3 + r.len + length (others (fields_of r.rated))
   reply-length k = ap length reply-some ∙ length-append head_text (others (fields_of r.rated)) ∙ ap (λ (n : ℕ). n + length (others (fields_of r.rated))) (head-length k)
+
+pub ruleset reply_lengths = (reply-none, reply-length)

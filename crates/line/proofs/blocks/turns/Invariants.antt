@@ -5,8 +5,8 @@ use lib.ListN.{length}
 use Rattle.line.proofs.Runs.{Going}
 use Rattle.line.proofs.blocks.turns.Given as goal
 
-abbrev pub invariant-loop-used : goal.invariant-loop-used
-invariant-loop-used l = Going l.input l.initial.out l.skipping l.last l.used l.wrote l.skip l.out
+abbrev pub invariant-loop-done : goal.invariant-loop-done
+invariant-loop-done l = Going l.input l.initial.out l.fn.skipping l.last l.done l.out
 
-abbrev pub decreases-loop-used : goal.decreases-loop-used
-decreases-loop-used l = length l.input - l.used
+abbrev pub decreases-loop-done : goal.decreases-loop-done
+decreases-loop-done l = length l.input - l.done.used

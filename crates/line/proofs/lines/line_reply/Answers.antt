@@ -1,19 +1,12 @@
 -- `line::lines::line_reply` meets its contract: what was read from the start is the line's request only where it ends with the
 -- line. Assumes nothing.
-use Rattle.std.proofs.Common.{ap, ◌∙◌}
-use Rattle.reply.specs.Answers.{reply_text}
-use Rattle.reply.proofs.Replies.{reply-keyed}
-use Rattle.line.proofs.Placing.{line-whole, line_other}
+use Rattle.std.proofs.Common.{◌≡◌, length, rules, ap, ◌∙◌}
+use Rattle.reply.specs.Answers.{reply_at, reply_text}
+use Rattle.line.proofs.Placing.{ending, line-whole, line-keyed}
 use Rattle.line.proofs.lines.line_reply.Goals as goal
 
-pub returns-then-reply-line : goal.returns-then-reply-line
-returns-then-reply-line c =
+pub returns : goal.returns
+returns c =
     let line = c.args.line.now in
-    let r = c.reply_at-reply in
-    record { value = line-whole line r.result r.ensures c.if-reply-line.true; keyed = reply-keyed line 0 r.result r.ensures }
-
-pub returns-clause-value : goal.returns-clause-value
-returns-clause-value c =
-    let line = c.args.line.now in
-    let r = c.reply_at-reply in
-    ap (reply_text line) c.no_reply.ensures ∙ line_other line r.result r.ensures c.if-reply-line.false
+    let e : c.filter.result ≡ ending (length line) (reply_at line 0) = search rules in
+    record { value = ap (reply_text line) e ∙ line-whole line; keyed = rw e (line-keyed line) }
