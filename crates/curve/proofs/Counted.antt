@@ -6,11 +6,8 @@ use native.Mathlib.Omega.{arith}
 use lib.Dec.{T}
 use lib.IntN.{ℤ, pos, ◌+ℤ◌, ◌-ℤ◌}
 use Rattle.laws.specs.Parts.{P, N}
-use mir.Syntax.{w32}
-use mir.Val.{to_z, of_z}
 use Rattle.laws.proofs.Ints.{plus, minus, apart}
 use Rattle.quantity.specs.Quantities.{in_range}
-use Rattle.quantity.proofs.Counts.{near}
 use Rattle.quantity.proofs.Rim.{range-read, sum-value, difference-value}
 use Rattle.curve.specs.Levels.{level_by, bottom, Countable, Entries}
 
@@ -23,10 +20,6 @@ pub record Counted (sign : Bool) (x : ℤ) (e : ℕ) : Type 0 where
 
 pub counted : (sign : Bool) (x : ℤ) (e : ℕ) → in_range x ≡ true → Entries sign e → Counted sign x e
 counted sign x e r h = record { low = (range-read x r).0; high = (range-read x r).1; base = h.low; most = h.high }
-
--- a value in range, read out of a lent array
-pub read : (x : ℤ) → in_range x ≡ true → to_z w32 (of_z w32 x) ≡ x
-read x r = near x (omega (arith, range-read x r)) (omega (arith, range-read x r))
 
 pub up_is : (sign : Bool) (z : ℤ) (e r : ℕ) → sign ≡ true → Countable sign z e → r + N z ≡ e + P z → r ≡ level_by sign z e
 unfolding level_by

@@ -4,7 +4,8 @@
 use Rattle.std.specs.Prelude.{Bool, true, false, List, ◌≡◌, ◌⊎◌, ℕ, zero, suc, ◌+◌, ◌*◌, ◌-◌, ◌/◌, ◌≤◌, ◌<◌, min, ℤ, pos, ◌+ℤ◌, ◌-ℤ◌, length, get_or}
 use Rattle.laws.specs.Parts.{P, N}
 use Rattle.laws.specs.Sums.{sum_to}
-use Rattle.quantity.specs.Quantities.{in_range, band_of}
+use Rattle.quantity.specs.Quantities.{in_range, nought, band_of}
+use Rattle.quantity.specs.declared.quantities.Tenths.{Tenths}
 use Rattle.quantity.specs.declared.quantities.BandSet.{BandSet}
 use Rattle.energy.specs.Energies.{F}
 
@@ -27,12 +28,12 @@ pub record Entries (sign : Bool) (entry : ℕ) : Type 0 where
   pub low : bottom sign ≤ entry
   pub high : entry ≤ 3000
 
--- value i of a set whose values are lent as plain numbers
-abbrev pub plain_at : List ℤ → ℕ → ℤ
-plain_at values i = get_or values i (pos 0)
+-- value i of those lent, as a plain number
+abbrev pub plain_at : List Tenths → ℕ → ℤ
+plain_at values i = (get_or values i nought).0
 
 -- the first n of them are in range
-abbrev pub Ranged : List ℤ → ℕ → Type 0
+abbrev pub Ranged : List Tenths → ℕ → Type 0
 Ranged values n = (i : ℕ) → i < n → in_range (plain_at values i) ≡ true
 
 -- the levels of the first n values

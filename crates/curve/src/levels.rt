@@ -1,7 +1,7 @@
 // The shared rating over levels: sums, the search for the accepted position, and the sum of energies.
 ghost use Rattle.std.specs.Prelude.{◌≡◌, true, ℕ, ◌≤◌, ◌<◌, length, get_or};
 ghost use Rattle.laws.specs.Sums.{sum_to};
-ghost use Rattle.quantity.specs.Quantities.{in_range, band_of};
+ghost use Rattle.quantity.specs.Quantities.{in_range};
 ghost use Rattle.curve.specs.Bands.{accepted};
 ghost use Rattle.curve.specs.Levels.{level_by, Countable, Entries, plain_at, Ranged, Levels, at, total_at, least_of, energies_of, Settled};
 
@@ -53,23 +53,16 @@ pub fn level_of(value: Tenths, airborne: bool, entry: u32) -> u32
     counted(value.0, airborne, entry)
 }
 
-// The values of a set as plain numbers of tenths: as such they can be lent, and nobody copies the set to count its levels.
-pub fn plain(set: BandSet) -> [i32; 16]
-    ensures { (i : ℕ) → i < 16 → plain_at result i ≡ band_of set i }
-{
-    set.values.map(|value| value.0)
-}
-
-// The levels of the first `bands` values, counted from the entries.
-pub fn levels(values: &[i32; 16], bands: usize, airborne: bool, entries: [u32; 16]) -> [u32; 16]
-    requires bands_bound { bands ≤ 16 }
-    requires ranged { Ranged values.now bands }
+// The levels of the values, counted from the entries.
+pub fn levels(values: &[Tenths], airborne: bool, entries: [u32; 16]) -> [u32; 16]
+    requires bands_bound { length values.now ≤ 16 }
+    requires ranged { Ranged values.now (length values.now) }
     requires each_entry { (i : ℕ) → i < 16 → Entries airborne (get_or entries i 0) }
-    ensures { Levels airborne (plain_at values.now) entries bands result }
+    ensures { Levels airborne (plain_at values.now) entries (length values.now) result }
 {
     let mut out = [0u32; 16];
-    for i in 0..bands {
-        out[i] = level_of(Tenths(values[i]), airborne, entries[i]);
+    for i in 0..values.len() {
+        out[i] = level_of(values[i], airborne, entries[i]);
     }
     out
 }

@@ -1,26 +1,30 @@
-// The levels of a kind's bands, by its reference curve and by its spectra.
+// The levels of a kind's bands, by its reference curve and by its spectra. The values lent are a set's; the first are the bands'.
 //
 // Each arm counts from an array that its kind names: so the array stands in the code, where one chosen before would be laid out
-// and copied.
+// and copied. It cuts the values to the count that its kind names: so the length of the walk stands there, too.
 #![tactic(auto, using(crate::proofs::Facts::fits))]
 
+ghost use Rattle.std.specs.Prelude.{◌≤◌, length};
 ghost use Rattle.curve.specs.Levels.{plain_at, Ranged, Levels};
 ghost use Rattle.kinds.specs.Kinds.{airborne, bands_of};
 ghost use Rattle.kinds.specs.Numbers.{entries_of, first_of, second_of};
 
 use crate::kinds::{A1Kind, A3Kind, I1Kind, I3Kind, Kind, RatingKind};
 use curve::levels::levels;
+use quantity::Tenths;
 
 // By the reference curve.
-fn curve_levels<K: RatingKind>(values: &[i32; 16]) -> [u32; 16]
-    requires { Ranged values.now (bands_of K.kind) }
+fn curve_levels<K: RatingKind>(values: &[Tenths]) -> [u32; 16]
+    requires bands_bound { bands_of K.kind ≤ length values.now }
+    requires ranged { Ranged values.now (bands_of K.kind) }
     ensures { Levels (airborne K.kind) (plain_at values.now) (entries_of K.kind) (bands_of K.kind) result }
 {
-    levels(values, K::BANDS, K::AIRBORNE, K::reference())
+    levels(&values[..K::BANDS], K::AIRBORNE, K::reference())
 }
 
-pub fn by_curve(kind: Kind, values: &[i32; 16]) -> [u32; 16]
-    requires { Ranged values.now (bands_of kind) }
+pub fn by_curve(kind: Kind, values: &[Tenths]) -> [u32; 16]
+    requires bands_bound { bands_of kind ≤ length values.now }
+    requires ranged { Ranged values.now (bands_of kind) }
     ensures { Levels (airborne kind) (plain_at values.now) (entries_of kind) (bands_of kind) result }
 {
     match kind {
@@ -32,15 +36,17 @@ pub fn by_curve(kind: Kind, values: &[i32; 16]) -> [u32; 16]
 }
 
 // By the spectrum of the first term.
-fn first_levels<K: RatingKind>(values: &[i32; 16]) -> [u32; 16]
-    requires { Ranged values.now (bands_of K.kind) }
+fn first_levels<K: RatingKind>(values: &[Tenths]) -> [u32; 16]
+    requires bands_bound { bands_of K.kind ≤ length values.now }
+    requires ranged { Ranged values.now (bands_of K.kind) }
     ensures { Levels (airborne K.kind) (plain_at values.now) (first_of K.kind) (bands_of K.kind) result }
 {
-    levels(values, K::BANDS, K::AIRBORNE, K::first())
+    levels(&values[..K::BANDS], K::AIRBORNE, K::first())
 }
 
-pub fn by_first(kind: Kind, values: &[i32; 16]) -> [u32; 16]
-    requires { Ranged values.now (bands_of kind) }
+pub fn by_first(kind: Kind, values: &[Tenths]) -> [u32; 16]
+    requires bands_bound { bands_of kind ≤ length values.now }
+    requires ranged { Ranged values.now (bands_of kind) }
     ensures { Levels (airborne kind) (plain_at values.now) (first_of kind) (bands_of kind) result }
 {
     match kind {
@@ -52,15 +58,17 @@ pub fn by_first(kind: Kind, values: &[i32; 16]) -> [u32; 16]
 }
 
 // By the spectrum of the second term, which an airborne kind has.
-fn second_levels<K: RatingKind>(values: &[i32; 16]) -> [u32; 16]
-    requires { Ranged values.now (bands_of K.kind) }
+fn second_levels<K: RatingKind>(values: &[Tenths]) -> [u32; 16]
+    requires bands_bound { bands_of K.kind ≤ length values.now }
+    requires ranged { Ranged values.now (bands_of K.kind) }
     ensures { Levels (airborne K.kind) (plain_at values.now) (second_of K.kind) (bands_of K.kind) result }
 {
-    levels(values, K::BANDS, K::AIRBORNE, K::second())
+    levels(&values[..K::BANDS], K::AIRBORNE, K::second())
 }
 
-pub fn by_second(kind: Kind, values: &[i32; 16]) -> [u32; 16]
-    requires { Ranged values.now (bands_of kind) }
+pub fn by_second(kind: Kind, values: &[Tenths]) -> [u32; 16]
+    requires bands_bound { bands_of kind ≤ length values.now }
+    requires ranged { Ranged values.now (bands_of kind) }
     ensures { Levels (airborne kind) (plain_at values.now) (second_of kind) (bands_of kind) result }
 {
     match kind {

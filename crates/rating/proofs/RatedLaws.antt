@@ -1,30 +1,16 @@
 -- The ways out of the rating call: whether a set can be rated, by the two tests, and the answers that follow. Assumes nothing.
 use mathlib.Core.Path.{◌≡◌, refl, sym, ◌∙◌, ap}
 use mathlib.Core.Bool.{true}
-use Prim.Native.Nat.{ℕ, ◌≤◌}
+use Prim.Native.Nat.{ℕ}
 use borrow.Author.Tests.{eq-eqb, ne_eqb}
 use Rattle.quantity.specs.declared.quantities.BandSet.{BandSet}
 use Rattle.quantity.specs.declared.refusals.Refusal.TheVariants.{BandCount}
 use Rattle.curve.specs.Bands.{accepted}
-use Rattle.curve.proofs.Searched.{count_most}
 use Rattle.kinds.specs.declared.kinds.Kind.{Kind}
-use Rattle.kinds.specs.declared.kinds.Numbers.{Numbers}
 use Rattle.kinds.specs.Kinds.{bands_of}
-use Rattle.kinds.specs.Numbers.{numbers_of}
-use Rattle.kinds.proofs.Facts.{count-of}
 use Rattle.rating.specs.declared.sheets.Sheet.{Sheet}
 use Rattle.rating.specs.Sheets.{rated_of, sheet_of}
 use Rattle.std.specs.Prelude.{Ok, Err}
-
--- the count of the numbers fetched is the kind's
-pub bands-are : (k : Kind) (n : Numbers) → n ≡ numbers_of k → n.bands ≡ bands_of k
-unfolding numbers_of
-bands-are k n e = ap (λ (m : Numbers). m.bands) e
-
--- and no more than a set has places for
-pub bands_most : (k : Kind) → (numbers_of k).bands ≤ 16
-unfolding numbers_of
-bands_most k = count_most (count-of k)
 
 -- a set of another length is refused for it, and a set in order has its sheet
 module _ (k : Kind) (s : BandSet) (m : ℕ) where

@@ -12,13 +12,13 @@ use Rattle.laws.specs.Parts.{P, N}
 use Rattle.laws.proofs.Ints.{minus, apart, times-P, times-N}
 use Rattle.laws.proofs.Lists.{listed_at}
 use Rattle.laws.proofs.Sums.{sum_same}
-use Rattle.quantity.specs.Quantities.{in_range, half_even, band_of}
+use Rattle.quantity.specs.Quantities.{half_even, band_of}
 use Rattle.quantity.specs.declared.quantities.BandSet.{BandSet}
 use Rattle.quantity.specs.declared.quantities.Decibels.{Decibels}
 use Rattle.curve.specs.Bands.{accepted, limited}
 use Rattle.laws.specs.Tests.{any_to, bit}
 use Rattle.energy.specs.Energies.{u, Summed}
-use Rattle.curve.specs.Levels.{at, plain_at, Ranged, level_by, level_at, Levels, Entries, Count}
+use Rattle.curve.specs.Levels.{at, level_at, Levels, Entries, Count}
 use Rattle.curve.proofs.Counted.{PartsOf, counted, level-parts}
 use Rattle.laws.proofs.Counted.{Up}
 use Rattle.curve.proofs.Searched.{band-in, count_most, count-some, level-at-most, least-below, energies-bounds, settled-alike}
@@ -32,7 +32,6 @@ use Rattle.rating.specs.Curve.{rating_of, shifts_of}
 use Rattle.rating.specs.Terms.{airborne_term}
 use Rattle.rating.specs.Sheets.{decibels, first_by, second_by, sheet_of}
 use Rattle.rating.specs.Found.{SoughtBy, Sought, WeighedOf, rating_by, term_by, term_of}
-use Rattle.rating.proofs.RatedLaws.{bands-are}
 use Rattle.rating.proofs.Meaning.{rating-is, shifts-is, start-below}
 use Rattle.rating.proofs.Weighing.{term-alike, airborne-term, impact-term}
 use Rattle.std.specs.Prelude.{Option, Some, None}
@@ -118,32 +117,41 @@ module _ (k : Kind) (s : BandSet) (acc : accepted s (bands_of k) ≡ true) where
     limit = e i;
   }
 
--- ---- the same, from what the code has fetched: the numbers of the kind, and the plain values of an accepted set
-pub record Fetched (k : Kind) (s : BandSet) (values : List ℤ) (m : Numbers) : Type 0 where
+-- ---- the same, of an accepted set and the numbers that the code has fetched
+
+-- the count of the numbers fetched is the kind's
+bands-are : (k : Kind) (n : Numbers) → n ≡ numbers_of k → n.bands ≡ bands_of k
+unfolding numbers_of
+bands-are k n e = ap (λ (m : Numbers). m.bands) e
+
+-- and no more than a set has places for
+pub bands-most : (k : Kind) → (numbers_of k).bands ≤ 16
+unfolding numbers_of
+bands-most k = count_most (count-of k)
+
+-- what is asked where values and levels are lent
+pub ruleset lending = (bands-most, band-in)
+
+pub record Fetched (k : Kind) (s : BandSet) (m : Numbers) : Type 0 where
   pub acc : accepted s (bands_of k) ≡ true
   pub numbers : m ≡ numbers_of k
-  pub plain : (i : ℕ) → i < 16 → plain_at values i ≡ band_of s i
 
 -- and levels that are lent: those of the set's bands, and no more
 pub record Lent (k : Kind) (s : BandSet) (entries lent : List ℕ) : Type 0 where
   pub count : length lent ≡ bands_of k
   pub each : (i : ℕ) → i < bands_of k → at lent i ≡ level_at (airborne k) s entries i
 
-module _ {k : Kind} {s : BandSet} {values : List ℤ} {m : Numbers} (f : Fetched k s values m) where
-  pub ranged : Ranged values (bands_of k)
-  ranged i h = ap in_range (f.plain i (omega (arith, most k s f.acc))) ∙ band-in s (bands_of k) f.acc i h
-
+module _ {k : Kind} {s : BandSet} {m : Numbers} (f : Fetched k s m) where
   near : m.origin.0 < 200
   near = subst (λ (n : Numbers). n.origin.0 < 200) (sym f.numbers) (sound-of k).near
 
-  -- of the levels counted from the plain values, those lent are the set's
-  pub lent-by : {entries levels : List ℕ} → Levels (airborne k) (plain_at values) entries (bands_of k) levels
+  -- of the levels counted from the set's values, those lent
+  pub lent-by : {entries levels : List ℕ} → Levels (airborne k) (band_of s) entries (bands_of k) levels
       → Lent k s entries (take m.bands levels)
   lent-by {entries} {levels} l =
       let e : m.bands ≡ bands_of k = bands-are k m f.numbers in record {
         count = rw e (length-take-le (bands_of k) levels (omega (arith, l.whole, most k s f.acc)));
-        each = λ i h. get_or-take m.bands levels i 0 (omega arith) ∙ l.each i h
-            ∙ ap (λ (x : ℤ). level_by (airborne k) x (at entries i)) (f.plain i (omega (arith, most k s f.acc)));
+        each = λ i h. get_or-take m.bands levels i 0 (omega arith) ∙ l.each i h;
       }
 
   module _ {entries lent : List ℕ} (l : Lent k s entries lent) where
@@ -216,7 +224,7 @@ unfolding numbers_of
 second_is k s acc p r t (given d e h) = ap (λ (z : ℤ). Some (decibels z)) h ∙ second-given k s acc p r e
 second_is k s acc p r t (absent e) = second-absent k s acc p r e
 
-pub sheet-made : {k : Kind} {s : BandSet} {values : List ℤ} {m : Numbers} → Fetched k s values m → (p : ℕ) (r : Sheet)
+pub sheet-made : {k : Kind} {s : BandSet} {m : Numbers} → Fetched k s m → (p : ℕ) (r : Sheet)
     → Sought k s p r.shifts → r.limit ≡ any_to (bit s.marks) (bands_of k) → MadeAt k s p r m → r ≡ sheet_of k s
 unfolding numbers_of
 sheet-made {k} {s} f p r found limit w =

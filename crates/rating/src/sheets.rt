@@ -10,7 +10,7 @@ ghost use Rattle.rating.specs.Curve.{rating_of};
 ghost use Rattle.rating.specs.Sheets.{sheet_of, rated_of, accept_of, single_of};
 
 use curve::Position;
-use curve::levels::{Accepted, all_in_range, energies, least, plain, settle, sum};
+use curve::levels::{Accepted, all_in_range, energies, least, settle, sum};
 use energy::{RatingTables, tables};
 use kinds::{Kind, Numbers, bands_of, by_curve, by_first, by_second, marked, numbers_of, start_of};
 use quantity::signed::less;
@@ -91,21 +91,20 @@ fn term_of(n: &Numbers, p: Position, w: Weighed, tables: RatingTables) -> Decibe
 
 // The sheet of an accepted set, with the tables lent: whoever rates many sets lays them out once. It is handed on as the answer
 // that it is: a sheet by itself would be copied into one.
-#[tactic(auto, using(crate::proofs::RatedLaws::bands_most, std::proofs::lemmas::Grind::common_steps))]
+#[tactic(auto, using(crate::proofs::Sheeted::lending, std::proofs::lemmas::Grind::common_steps))]
 pub fn sheet_of(kind: Kind, set: BandSet, tables: RatingTables) -> Result<Sheet, Refusal>
     requires set_accepted { accepted set (bands_of kind) ≡ true }
     ensures { result ≡ Ok (sheet_of kind set) }
 {
     let n = numbers_of(kind);
-    let values = plain(set);
-    let by_curve = by_curve(kind, &values);
-    let by_first = by_first(kind, &values);
+    let by_curve = by_curve(kind, &set.values);
+    let by_first = by_first(kind, &set.values);
     let accepted = sought(kind, &by_curve[..n.bands], n.limit);
     let p = accepted.at;
     let one = weigh(&by_first[..n.bands], tables);
     // both are weighed before either step is looked up, so that neither waits for the other
     let second = if n.airborne {
-        let by_second = by_second(kind, &values);
+        let by_second = by_second(kind, &set.values);
         let other = weigh(&by_second[..n.bands], tables);
         Some(term_of(&n, p, other, tables))
     } else {
@@ -136,14 +135,13 @@ fn accept(kind: Kind, set: BandSet) -> Result<(), Refusal>
 }
 
 // The rating of an accepted set, without its terms.
-#[tactic(auto, using(crate::proofs::RatedLaws::bands_most, std::proofs::lemmas::Grind::common_steps))]
+#[tactic(auto, using(crate::proofs::Sheeted::lending, std::proofs::lemmas::Grind::common_steps))]
 fn rating_of(kind: Kind, set: BandSet) -> Decibels
     requires { accepted set (bands_of kind) ≡ true }
     ensures { result.0 ≡ rating_of kind (band_of set) }
 {
     let n = numbers_of(kind);
-    let values = plain(set);
-    let by_curve = by_curve(kind, &values);
+    let by_curve = by_curve(kind, &set.values);
     let accepted = sought(kind, &by_curve[..n.bands], n.limit);
     rating_at(&n, accepted.at)
 }
