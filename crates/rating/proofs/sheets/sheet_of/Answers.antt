@@ -5,7 +5,7 @@ use Rattle.kinds.proofs.Facts.{entries_fit, first-fit, second-fit}
 use Rattle.rating.specs.Found.{Sought}
 use Rattle.rating.proofs.Sheeted.{Fetched, lent-by, counted-bands, low, weighed, term-by, sought-by, bounds, SecondAt, given, absent, sheet-made}
 use Rattle.rating.proofs.sheets.sheet_of.Goals as goal
-use Rattle.rating.proofs.sheets.sheet_of.Goals.{After-numbers_of-n, After-sought-accepted, After-weigh-one, After-weigh-other, After-marked, then-n, else-n}
+use Rattle.rating.proofs.sheets.sheet_of.Goals.{After-numbers_of-n, After-sought-accepted, After-marked, then-n, else-n}
 use Rattle.std.specs.Prelude.{Ok}
 
 fetched : (c : After-numbers_of-n) → Fetched c.args.kind c.args.set c.numbers_of-n.result
