@@ -3,7 +3,7 @@ ghost use Rattle.std.specs.Prelude.{true, ◌≡◌, ◌≤◌, ◌<◌, IfOk};
 ghost use Rattle.kinds.specs.Kinds.{kind_number};
 ghost use Rattle.entry.specs.Entries.{call_of, entry_of};
 ghost use Rattle.register.specs.Registers.{sound, with_entry, place_due, due_of, billed_of, after_of};
-ghost use Rattle.register.specs.Steps.{accepted_by, RoomFor};
+ghost use Rattle.register.specs.Steps.{accepted_by, bill, RoomFor};
 ghost use Rattle.register.specs.Looks.{WordsOf};
 
 use crate::lookup::place_of;
@@ -35,16 +35,40 @@ enum Accepted {
     New(Sheet, Entry),
 }
 
-// A register with one entry more, at the place of its count.
-#[tactic(auto, unfolding(crate::specs::Registers::with_entry))]
-fn with_entry(register: &Register, e: Entry) -> Register
-    requires { register.now.count < 512 }
-    ensures { result ≡ with_entry register.now e }
+// What an accepted call is answered: the same again is charged nothing, a new key its price.
+fn bill(accepted: Accepted) -> Billed
+    ensures { result ≡ bill accepted }
 {
-    let mut next = *register;
-    next.entries[register.count] = e;
-    next.count += 1;
-    next
+    match accepted {
+        Accepted::Again(sheet) => Billed {
+            sheet,
+            charged: Fen(0),
+        },
+        Accepted::New(sheet, e) => Billed {
+            sheet,
+            charged: e.price,
+        },
+    }
+}
+
+// A register and what was answered, out of a reference, so that the register is copied once.
+fn step_of(register: &Register, billed: Result<Billed, Refusal>) -> Step
+    ensures { result ≡ record { register = register.now; billed = billed } }
+{
+    Step {
+        register: *register,
+        billed,
+    }
+}
+
+// One entry more, at the place of the count.
+#[tactic(auto, unfolding(crate::specs::Registers::with_entry))]
+fn push(register: &mut Register, e: Entry)
+    requires { register.old.count < 512 }
+    ensures { register.new ≡ with_entry register.old e }
+{
+    register.entries[register.count] = e;
+    register.count += 1;
 }
 
 // What becomes of a rated call: the same again, 17, a new key, or 18.
@@ -98,7 +122,7 @@ fn accept(
 // One call: the sheet and what is charged now, or the refusal, which leaves the register as it was.
 #[tactic(auto, unfolding(crate::specs::Registers::billed_of, crate::specs::Registers::after_of, entry::specs::Entries::entry_of))]
 pub fn enter(
-    register: Register,
+    mut register: Register,
     customer: u64,
     key: &[u8],
     kind: Kind,
@@ -108,24 +132,9 @@ pub fn enter(
     ensures billed { result.billed ≡ billed_of register (call_of customer key.now kind set price.0) }
     ensures register_after { result.register ≡ after_of register (call_of customer key.now kind set price.0) }
 {
-    match accept(&register, customer, key, kind, set, price) {
-        Ok(Accepted::New(sheet, e)) => Step {
-            register: with_entry(&register, e),
-            billed: Ok(Billed {
-                sheet,
-                charged: e.price,
-            }),
-        },
-        Ok(Accepted::Again(sheet)) => Step {
-            register,
-            billed: Ok(Billed {
-                sheet,
-                charged: Fen(0),
-            }),
-        },
-        Err(refusal) => Step {
-            register,
-            billed: Err(refusal),
-        },
+    let accepted = accept(&register, customer, key, kind, set, price);
+    if let Ok(Accepted::New(_, e)) = accepted {
+        push(&mut register, e);
     }
+    step_of(&register, accepted.map(bill))
 }
