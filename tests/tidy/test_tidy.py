@@ -85,6 +85,16 @@ class Tidy(unittest.TestCase):
         silent = {**FILES, "docs/PROOFS.md": "The theorem is told.\n"}
         self.assertIn("crates/top/proofs/Laws.antt:7: nothing cites told", self.found(silent))
 
+    def test_ghost_fields_cite_and_functions_are_called_in_every_form(self):
+        text = (
+            FILES["crates/base/src/lib.rt"]
+            + "struct Half {\n    n: u32,\n    ghost half: { n ≡ halved n },\n}\n"
+            + "fn once<K>(n: u32) -> Option<u32> {\n    Some(n).map(lost)\n}\n"
+            + "fn more(n: u32) -> u32 {\n    once::<u32>(more(n))\n}\n"
+        )
+        found = self.found({**FILES, "crates/base/src/lib.rt": text})
+        self.assertEqual([line for line in sorted(found) if "crates/base/src" in line], ["crates/base/src/lib.rt:18: nothing calls more"])
+
 
 if __name__ == "__main__":
     unittest.main()

@@ -159,7 +159,8 @@ def functions_uncalled(code):
                 continue
             names = {name, *re.findall(rf"use [^;]*::{name} as (\w+);", uses)}
             outside = (bare[other] if other != path else bare[path].replace(re.sub(r"//.*", "", match[0]), "", 1) for other in code)
-            if not re.search(rf"(?<!fn )\b(?:{'|'.join(names)})\b\s*(?:::<[^()]*>)?\(", "\n".join(outside)):
+            called = "|".join(names)  # or handed by its name to a method such as `map`
+            if not re.search(rf"(?<!fn )\b(?:{called})\b\s*(?:::<[^()]*>)?\(|\.(?:map|map_err|and_then|all|any|filter)\((?:\w+::)*(?:{called})\)", "\n".join(outside)):
                 yield f"{path}:{text[:match.start()].count(chr(10)) + 1}: nothing calls {name}"
 
 

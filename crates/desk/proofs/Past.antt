@@ -7,9 +7,6 @@ use Rattle.measurement.proofs.Past.{Alike, list-past}
 use Rattle.kinds.specs.declared.kinds.Kind.{Kind}
 use Rattle.kinds.specs.Kinds.{bands_of}
 use Rattle.desk.specs.Calls.{rated_by, readings_rated}
-use Rattle.std.specs.Prelude.{Result}
-use Rattle.quantity.specs.declared.quantities.BandSet.{BandSet}
-use Rattle.quantity.specs.declared.refusals.Refusal.{Refusal}
 
 pub readings-past : (k : Kind) (a b : List Reading) (len : ℕ) → Alike a b len → readings_rated k a len ≡ readings_rated k b len
 unfolding readings_rated

@@ -1,8 +1,8 @@
 // Entries: what each says, when two say the same, and the one that a call makes.
-ghost use Rattle.std.specs.Prelude.{◌≡◌, ◌≤◌, ◌<◌, length, get_or};
+ghost use Rattle.std.specs.Prelude.{◌≡◌, ◌≤◌, length, get_or};
 ghost use Rattle.laws.specs.Lists.{listed};
-ghost use Rattle.kinds.specs.Kinds.{bands_of, kind_number};
-ghost use Rattle.entry.specs.Entries.{no_entry, same_text, same_value, same_key, same_values, same_bands, set_of, kept_value, call_of, entry_of};
+ghost use Rattle.kinds.specs.Kinds.{kind_number};
+ghost use Rattle.entry.specs.Entries.{no_entry, same_key, same_bands, set_of, kept_value, call_of, entry_of};
 
 use kinds::{Kind, bands_of, kind_number, marks_of};
 use quantity::{BandSet, Fen, Tenths, byte};

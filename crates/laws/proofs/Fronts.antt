@@ -61,9 +61,6 @@ module _ {A : Type 0} where
     pub counted : count ≡ length done
     pub written : out ≡ front done l
 
-  pub none_written : (whole l : List A) → Writing whole whole l 0 l
-  none_written whole l = record { done = []; parted = refl; counted = refl; written = refl }
-
   -- one turn: what is still to come is a piece and the rest, the piece has room, and once it is written to the tail that is lent
   -- the rest is still to come
   pub record Turn (whole piece rest l : List A) (count : ℕ) (out : List A) : Type 0 where

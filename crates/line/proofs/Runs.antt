@@ -129,9 +129,6 @@ module _ {s l : List ℕ} {skip last : Bool} {done : Progress} {out : List ℕ} 
   same-room : length out - done.wrote ≡ length l - length g.text
   same-room = omega (arith, going-length g, g.wrote-is)
 
-  pub going-room : done.wrote ≤ length out
-  going-room = omega (arith, going-length g, g.wrote-is, g.fits)
-
   abbrev now_step : Step
   now_step = step_at s done.used (length out - done.wrote) done.skipping last
 

@@ -1,5 +1,5 @@
 // The block call: all whole lines of a part of the input, in order.
-ghost use Rattle.std.specs.Prelude.{◌≡◌, ◌≤◌, ◌-◌, length, option_map};
+ghost use Rattle.std.specs.Prelude.{◌≡◌, ◌≤◌, ◌-◌, length};
 ghost use Rattle.line.specs.Blocks.{feed_after, piece_at, step_at, Turned, block_of, Answered};
 
 use crate::lines::answer_at;

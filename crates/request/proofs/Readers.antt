@@ -219,9 +219,6 @@ module _ (d : ℕ) (x y : Option Kind) where
   pub octaves : (d ≡ 51 → ⊥) → d ≡ 49 → y ≡ cond (eqb d 51) x (cond (eqb d 49) y None)
   octaves h k = rw (ne_eqb d 51 h, eq-eqb d 49 k)
 
-  pub neither : (d ≡ 51 → ⊥) → (d ≡ 49 → ⊥) → None ≡ cond (eqb d 51) x (cond (eqb d 49) y None)
-  neither h k = rw (ne_eqb d 51 h, ne_eqb d 49 k)
-
 -- keys: one byte more, or the end
 pub span_more : (s : List ℕ) (i : ℕ) → key_byte (byte_at s i) ≡ true → key_span (drop i s) ≡ suc (key_span (drop (suc i) s))
 unfolding key_span

@@ -1,5 +1,5 @@
 -- `desk::ratings::rate_readings` meets its contract: intake for the kind's count, then the rating. Assumes nothing.
-use mathlib.Core.Path.{sym, ◌∙◌, ap}
+use mathlib.Core.Path.{sym, ap}
 use Rattle.std.proofs.lemmas.Result.{err_from_is_err_and}
 use Rattle.rating.specs.Sheets.{rated_answer}
 use Rattle.desk.proofs.Joined.{readings-refused, readings-rated}

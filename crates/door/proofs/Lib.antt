@@ -1,2 +1,0 @@
--- Laws of numbers, lists and answers for the C door.
-pub mod Gives
