@@ -141,21 +141,21 @@ field-middle scale s (suc k) t r h g l e =
 
 -- ---- the same of a bit pattern
 module _ (scale b : ℕ) where
-  pub bits-not-finite : b % 2147483648 / 8388608 ≡ 255 → NotFinite ≡ whole_of scale (of_bits binary32 b)
+  pub bits_not_finite : b % 2147483648 / 8388608 ≡ 255 → NotFinite ≡ whole_of scale (of_bits binary32 b)
   unfolding of_bits
-  bits-not-finite e = not_finite scale (leb 2147483648 b) (b % 2147483648 / 8388608) (b % 8388608) e
+  bits_not_finite e = not_finite scale (leb 2147483648 b) (b % 2147483648 / 8388608) (b % 8388608) e
 
-  pub bits-far : 134 < b % 2147483648 / 8388608 → b % 2147483648 / 8388608 < 255 → Beyond ≡ whole_of scale (of_bits binary32 b)
+  pub bits_far : 134 < b % 2147483648 / 8388608 → b % 2147483648 / 8388608 < 255 → Beyond ≡ whole_of scale (of_bits binary32 b)
   unfolding of_bits
-  bits-far h g = field-far scale (leb 2147483648 b) (b % 2147483648 / 8388608) (b % 8388608) h g
+  bits_far h g = field-far scale (leb 2147483648 b) (b % 2147483648 / 8388608) (b % 8388608) h g
 
-  pub bits-tiny : scale ≤ 100 → b % 2147483648 / 8388608 < 119 → Units (pos 0) ≡ whole_of scale (of_bits binary32 b)
+  pub bits_tiny : scale ≤ 100 → b % 2147483648 / 8388608 < 119 → Units (pos 0) ≡ whole_of scale (of_bits binary32 b)
   unfolding of_bits
-  bits-tiny h g = field-tiny scale (leb 2147483648 b) (b % 2147483648 / 8388608) (b % 8388608) h (omega arith) g
+  bits_tiny h g = field-tiny scale (leb 2147483648 b) (b % 2147483648 / 8388608) (b % 8388608) h (omega arith) g
 
   -- with the sign that the pattern has
-  pub bits-middle : (s : Bool) (r : ℤ) → leb 2147483648 b ≡ s → 119 ≤ b % 2147483648 / 8388608 → b % 2147483648 / 8388608 ≤ 134
-      → r ≡ nearest_to s (scale * (8388608 + b % 8388608)) (2 ^ (150 - b % 2147483648 / 8388608)) → Units r ≡ whole_of scale (of_bits binary32 b)
+  pub bits_middle : (r : ℤ) → 119 ≤ b % 2147483648 / 8388608 → b % 2147483648 / 8388608 ≤ 134
+      → r ≡ nearest_to (leb 2147483648 b) (scale * (8388608 + b % 8388608)) (2 ^ (150 - b % 2147483648 / 8388608)) → Units r ≡ whole_of scale (of_bits binary32 b)
   unfolding of_bits
-  bits-middle s r e h g l =
-      rw e (field-middle scale s (b % 2147483648 / 8388608) (b % 8388608) r (omega arith) h g l)
+  bits_middle r h g l =
+      field-middle scale (leb 2147483648 b) (b % 2147483648 / 8388608) (b % 8388608) r (omega arith) h g l

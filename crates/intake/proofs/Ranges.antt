@@ -1,17 +1,17 @@
 -- From units to what is taken: a float of 256 or more is at least 2560 units at either scale, so out of both ranges, and what
 -- the code tests of a smaller one is its range. Assumes nothing.
-use mathlib.Core.Path.{◌≡◌, refl, sym, ◌∙◌, ap, subst}
-use mathlib.Core.Bool.{Bool, true, false, cond, not}
+use mathlib.Core.Path.{◌≡◌, refl, sym, ◌∙◌, ap}
+use mathlib.Core.Bool.{Bool, true, false, cond}
 use mathlib.Core.Logic.{◌⊎◌, inl, inr, ⊎_elim}
 use Prim.Native.Nat.{ℕ, ◌*◌, ◌≤◌, ◌<◌}
 use native.Mathlib.Nat.{lt_of_mul-lt-mul_left, mul-le-mul_right}
 use native.Mathlib.Omega.{arith}
 use borrow.Author.Tests.{le-leb, lt-leb, ltb-false}
-use lib.Dec.{T, ltb}
+use lib.Dec.{ltb}
 use lib.IntN.{ℤ, pos, negsuc}
-use lib.Ieee.{Float, nan, inf, fin, up, down, ne, is_nan}
-use lib.Ieee.Compare.{differs_from_itself, nan_differs}
+use lib.Ieee.{Float, nan, inf, fin, up, down, is_nan}
 use lib.Ieee.Fits.{down_pos}
+use Rattle.laws.proofs.Tests.{clash}
 use Rattle.laws.specs.Parts.{P, N}
 use Rattle.quantity.specs.Quantities.{in_range}
 use Rattle.quantity.proofs.Rim.{range-low, range-high}
@@ -19,10 +19,10 @@ use Rattle.quantity.specs.declared.refusals.Refusal.TheVariants.{NotFinite, Band
 use Rattle.intake.specs.declared.rounding.Whole.{Whole}
 use Rattle.intake.specs.declared.rounding.Whole.TheVariants as whole
 use Rattle.intake.specs.Nearest.{nearest, whole_of}
-use Rattle.intake.specs.Taken.{taken, ranged, float_taken}
+use Rattle.intake.specs.Taken.{ranged, float_taken}
 use Rattle.intake.specs.Times.{in_time, timed, time_of}
 use Rattle.intake.proofs.Nearest.{Near, near}
-use Rattle.std.specs.Prelude.{Result, Ok, Err}
+use Rattle.std.specs.Prelude.{Result, Err}
 use Rattle.quantity.specs.declared.quantities.Hundredths.{Hundredths}
 use Rattle.quantity.specs.declared.refusals.Refusal.{Refusal}
 use Rattle.intake.specs.declared.singles.Taken.{Taken}
@@ -45,17 +45,7 @@ beyond scale s m e h g =
 
 -- ---- a time's range
 
-pub time-yes : (t : ℤ) → 10 ≤ P t → P t ≤ 2000 → in_time t ≡ true
-unfolding in_time
-time-yes (pos n) h k = rw (le-leb 10 n h, le-leb n 2000 k)
-time-yes (negsuc n) h k = absurd (omega arith)
-
-pub time-low : (t : ℤ) → P t < 10 → in_time t ≡ false
-unfolding in_time
-time-low (pos n) h = rw (lt-leb 10 n h)
-time-low (negsuc n) h = refl
-
-pub time-high : (t : ℤ) → 2000 < P t → in_time t ≡ false
+time-high : (t : ℤ) → 2000 < P t → in_time t ≡ false
 unfolding in_time
 time-high (pos n) h = rw (le-leb 10 n (omega arith), lt-leb n 2000 h)
 time-high (negsuc n) h = absurd (omega arith)
@@ -87,7 +77,7 @@ taken_by limit whole.NotFinite = Err NotFinite
 out_of_range : (limit : Bool) (t : ℤ) → in_range t ≡ false → Err BandRange ≡ ranged limit t
 out_of_range limit t k = rw k
 
-pub taken-by : (limit : Bool) (x : Float) → taken_by limit (whole_of 10 x) ≡ float_taken limit x
+taken-by : (limit : Bool) (x : Float) → taken_by limit (whole_of 10 x) ≡ float_taken limit x
 unfolding whole_of float_taken
 taken-by limit nan = refl
 taken-by limit (inf s) = refl
@@ -104,7 +94,7 @@ time_by whole.NotFinite = Err NotFinite
 out-of-time : (t : ℤ) → in_time t ≡ false → Err TimeRange ≡ timed t
 out-of-time t k = rw k
 
-pub time-by : (x : Float) → time_by (whole_of 100 x) ≡ time_of x
+time-by : (x : Float) → time_by (whole_of 100 x) ≡ time_of x
 unfolding whole_of time_of
 time-by nan = refl
 time-by (inf s) = refl
@@ -113,38 +103,17 @@ time-by (fin s m e) =
     by_units time_by 100 s m e (omega arith)
     (⊎_elim (λ p. out-of-time t (time-high t (omega arith))) (λ p. out-of-time t (time-below t (omega arith))))
 
--- ---- a float that differs from itself
+-- ---- what is no number is not finite
+pub no_number : (scale : ℕ) (x : Float) → is_nan x ≡ true → whole_of scale x ≡ whole.NotFinite
+unfolding whole_of is_nan
+no_number scale nan e = refl
+no_number scale (inf s) e = refl
+no_number scale (fin s m k) e = clash cc
 
-pub differing : (scale : ℕ) (x : Float) → ne x x ≡ true → whole.NotFinite ≡ whole_of scale x
-unfolding whole_of
-differing scale x e = sym (ap (whole_of scale) (differs_from_itself x (rw e tt)))
+-- ---- what is taken of a float that was read in units
 
-pub alike : (x : Float) → ne x x ≡ false → T (not (is_nan x))
-unfolding is_nan
-alike nan e = subst T (sym nan_differs ∙ e) tt
-alike (inf s) e = tt
-alike (fin s m e) k = tt
+pub taken_read : (limit : Bool) (x : Float) (w : Whole) → w ≡ whole_of 10 x → float_taken limit x ≡ taken_by limit w
+taken_read limit x w e = sym (ap (taken_by limit) e ∙ taken-by limit x)
 
--- ---- the exits where the float is in units: z is what the code holds of t
-
-pub taken_in : (limit : Bool) (x : Float) (w : Whole) (z t : ℤ) → z ≡ t → in_range z ≡ true → w ≡ whole.Units t → w ≡ whole_of 10 x
-    → Ok (taken z limit) ≡ float_taken limit x
-taken_in limit x w z t b k e f = in-range ∙ ap (taken_by limit) (ap whole.Units b ∙ sym e ∙ f) ∙ taken-by limit x
-  where
-    in-range : Ok (taken z limit) ≡ ranged limit z
-    in-range = rw k
-
-pub taken_out : (limit : Bool) (x : Float) (w : Whole) (z t : ℤ) → z ≡ t → in_range z ≡ false → w ≡ whole.Units t → w ≡ whole_of 10 x
-    → Err BandRange ≡ float_taken limit x
-taken_out limit x w z t b k e f = out_of_range limit z k ∙ ap (taken_by limit) (ap whole.Units b ∙ sym e ∙ f) ∙ taken-by limit x
-
-pub time-in : (x : Float) (w : Whole) (n : ℕ) (t : ℤ) → n ≡ P t → in_time t ≡ true → w ≡ whole.Units t → w ≡ whole_of 100 x
-    → Ok (record { 0 = n }) ≡ time_of x
-time-in x w n t b k e f = in-range ∙ ap time_by (sym e ∙ f) ∙ time-by x
-  where
-    in-range : Ok (record { 0 = n }) ≡ timed t
-    in-range = rw (k, b)
-
-pub time-out : (x : Float) (w : Whole) (t : ℤ) → in_time t ≡ false → w ≡ whole.Units t → w ≡ whole_of 100 x
-    → Err TimeRange ≡ time_of x
-time-out x w t k e f = out-of-time t k ∙ ap time_by (sym e ∙ f) ∙ time-by x
+pub time_read : (x : Float) (w : Whole) → w ≡ whole_of 100 x → time_of x ≡ time_by w
+time_read x w e = sym (ap time_by e ∙ time-by x)

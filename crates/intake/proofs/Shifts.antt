@@ -1,12 +1,16 @@
 -- What the shifts of the rounding are: powers of two that stay small, so that nothing wraps. Assumes nothing.
-use mathlib.Core.Path.{◌≡◌, ◌∙◌, ap}
+use mathlib.Core.Path.{◌≡◌, sym, ◌∙◌, ap, subst}
 use mathlib.Core.Bool.{Bool, true, false}
 use Prim.Native.Nat.{ℕ, ◌+◌, ◌*◌, ◌-◌, ◌/◌, ◌%◌, ◌^◌, ◌≤◌, ◌<◌}
 use native.Mathlib.Nat.{mul-le-mul_right, mul_comm}
 use native.Mathlib.Omega.{arith}
 use lib.IntN.{ℤ, pos, neg_ℤ, ◌-ℤ◌}
 use lib.Pow.{pow-add, pow_pos, pow_mono}
-use Rattle.laws.proofs.Ints.{ints, minus, opposite}
+use mir.Syntax.{w32}
+use mir.Val.{SFits, to_z, of_z}
+use mir.Facts.{to_z-of_z}
+use Rattle.quantity.proofs.Rim.{as-pos}
+use Rattle.laws.proofs.Ints.{minus, opposite, eq-made, fits-made}
 use Rattle.intake.specs.Nearest.{held_of, size_of, nearest_to}
 use Rattle.intake.proofs.Nearest.{sized, size_small}
 use Rattle.laws.proofs.Bits.{one_bit}
@@ -33,12 +37,14 @@ pub size_fits : (s : Bool) (scale digits p : ℕ) → scale ≤ 100 → digits <
 size_fits s scale digits p h g k l =
     size_small s (scale * digits) (2 ^ p) (power p k l).0 (power p k l).1 (product scale digits h g)
 
-pub plus-sign : (r : ℤ) (m n p : ℕ) → r ≡ pos m -ℤ pos 0 → m ≡ size_of false n (2 ^ p) → r ≡ nearest_to false n (2 ^ p)
-plus-sign r m n p e f = e ∙ omega (ints, minus (pos m) (pos 0)) ∙ ap pos f ∙ sized false n (2 ^ p) (pow_pos p)
+pub plus_sign : (m n p : ℕ) → m < 2147483648 → m ≡ size_of false n (2 ^ p) → to_z w32 m ≡ nearest_to false n (2 ^ p)
+plus_sign m n p h e = as-pos m h ∙ ap pos e ∙ sized false n (2 ^ p) (pow_pos p)
 
-pub minus-sign : (r : ℤ) (m n p : ℕ) → r ≡ pos 0 -ℤ pos m → m ≡ size_of true n (2 ^ p) → r ≡ nearest_to true n (2 ^ p)
-minus-sign r m n p e f =
-    e
-    ∙ omega (ints, minus (pos 0) (pos m), opposite (pos m))
-    ∙ ap (λ (x : ℕ). neg_ℤ (pos x)) f
-    ∙ sized true n (2 ^ p) (pow_pos p)
+negated : (m : ℕ) → m < 2147483648 → pos 0 -ℤ to_z w32 m ≡ neg_ℤ (pos m)
+negated m h = ap (λ (z : ℤ). pos 0 -ℤ z) (as-pos m h) ∙ eq-made (omega (arith, minus (pos 0) (pos m), opposite (pos m)))
+
+pub minus_fits : (m : ℕ) → m < 2147483648 → SFits w32 (pos 0 -ℤ to_z w32 m)
+minus_fits m h = subst (SFits w32) (sym (negated m h)) (fits-made (omega (arith, opposite (pos m))) (omega (arith, opposite (pos m))))
+
+pub minus_sign : (m n p : ℕ) → m < 2147483648 → m ≡ size_of true n (2 ^ p) → to_z w32 (of_z w32 (pos 0 -ℤ to_z w32 m)) ≡ nearest_to true n (2 ^ p)
+minus_sign m n p h e = to_z-of_z (minus_fits m h) ∙ negated m h ∙ ap (λ (x : ℕ). neg_ℤ (pos x)) e ∙ sized true n (2 ^ p) (pow_pos p)

@@ -1,17 +1,9 @@
--- `intake::rounding::round` meets its contract: only a NaN differs from itself, and any other float is read back from its
--- bits. Assumes nothing.
+-- `intake::rounding::round` meets its contract: a float that is a number is read back from its bits. Assumes nothing.
 use mathlib.Core.Path.{◌∙◌, ap}
 use lib.Ieee.{binary32}
 use lib.Ieee.Bits.{of_bits-to_bits}
 use Rattle.intake.specs.Nearest.{whole_of}
-use Rattle.intake.proofs.Ranges.{differing, alike}
 use Rattle.intake.proofs.rounding.round.Goals as goal
-
-pub returns-then-x : goal.returns-then-x
-returns-then-x c = differing c.args.scale c.args.x c.if-x.true
-
-pub float_to_bits-x : goal.float_to_bits-x
-float_to_bits-x c = alike c.args.x c.if-x.false
 
 pub returns : goal.returns
 returns c =
