@@ -4,11 +4,13 @@ use mathlib.Core.Path.{◌≡◌, refl, sym, ◌∙◌, ap}
 use mathlib.Core.Bool.{Bool, true, false, cond}
 use mathlib.Core.List.{List, [], ◌∷◌, ◌++◌, append_assoc}
 use Prim.Native.Nat.{ℕ, zero, suc, ◌+◌, ◌-◌, ◌≤◌, ◌<◌}
+use native.Mathlib.Nat.{sub_self, add-zero}
 use native.Mathlib.Numerals.{add-one}
 use native.Mathlib.Omega.{arith}
+use borrow.Author.Tests.{eq-eqb, ne_eqb}
 use lib.Dec.{eqb}
-use lib.ListN.{length, set, replicate, drop, length-append, length-replicate}
-use lib.Seq.{drop-cons, append_snoc, set_at, set-append_seam}
+use lib.ListN.{length, get_or, set, replicate, drop, length-append, length-replicate}
+use lib.Seq.{get_or-append_right, get_or-drop, drop-cons, append_snoc, set_at, set-append_seam}
 use Rattle.laws.proofs.Tests.{refuted, clash}
 use Rattle.quantity.specs.declared.refusals.Refusal.{Refusal}
 use Rattle.entry.specs.declared.entries.Entry.{Entry}
@@ -81,22 +83,38 @@ module _ (customer : ℕ) (r : Register) where
         rw (drop-cons r.entries n past_end h)
         (cleared no_entry (others customer r n) (drop (suc n) r.entries) (entry_at r n) n (others_most n))
 
+    -- the entry that is gone through next stands where it stood
+    pub moved_at : get_or (moved_to customer r n) n past_end ≡ entry_at r n
+    unfolding moved_to
+    moved_at =
+        let m : length (others customer r n) ≤ n = others_most n in
+        let k = n - length (others customer r n) in
+        get_or-append_right (others customer r n) (replicate k no_entry ++ drop n r.entries) n past_end m
+        ∙ get_or-append_right (replicate k no_entry) (drop n r.entries) k past_end (omega (arith, length-replicate k no_entry))
+        ∙ rw (length-replicate k no_entry, sub_self, get_or-drop, add-zero) refl
+
     -- where the first free place comes after the others
     module _ (free : ℕ) (l : List Entry) (z : Entry) (f : free ≡ length (others customer r n)) (e : l ≡ moved_to customer r n) (p : z ≡ no_entry) where
+      here : get_or l n past_end ≡ entry_at r n
+      here = ap (λ (t : List Entry). get_or t n past_end) e ∙ moved_at
+
       -- an entry of the customer goes
-      pub moved-goes : theirs customer (entry_at r n) ≡ true
+      pub moved-goes : (get_or l n past_end).customer ≡ customer
           → (free ≡ length (others customer r (n + 1))) × (set l n z ≡ moved_to customer r (n + 1))
       unfolding moved_to
-      moved-goes q = rw (add-one n, others-goes n q) (f, rw (e, p) gone)
+      moved-goes q =
+          let t = eq-eqb (entry_at r n).customer customer (ap (λ (v : Entry). v.customer) (sym here) ∙ q) in
+          rw (add-one n, others-goes n t) (f, rw (e, p) gone)
 
       -- one of another takes that place
-      pub moved-stays : theirs customer (entry_at r n) ≡ false
-          → (free + 1 ≡ length (others customer r (n + 1))) × (set (set l n z) free (entry_at r n) ≡ moved_to customer r (n + 1))
+      pub moved-stays : ((get_or l n past_end).customer ≡ customer → ⊥)
+          → (free + 1 ≡ length (others customer r (n + 1))) × (set (set l n z) free (get_or l n past_end) ≡ moved_to customer r (n + 1))
       unfolding moved_to
       moved-stays q =
-          rw (add-one n, others-stays n q) (
+          let t = ne_eqb (entry_at r n).customer customer (λ u. q (ap (λ (v : Entry). v.customer) here ∙ u)) in
+          rw (add-one n, others-stays n t) (
             omega (arith, length-append (others customer r n) (entry_at r n ∷ [])),
-            rw (e, p, f, gone) (stored no_entry (others customer r n) (drop (suc n) r.entries) (entry_at r n) n (others_most n)),
+            rw (here, e, p, f, gone) (stored no_entry (others customer r n) (drop (suc n) r.entries) (entry_at r n) n (others_most n)),
           )
 
 -- ---- a closing

@@ -1,9 +1,0 @@
--- `ledger::closings::without` meets its contract. The invariant: the places passed were gone through, and the first that is free
--- comes after the others among them. Assumes nothing.
-use mathlib.Core.Path.{◌≡◌}
-use lib.ListN.{length}
-use Rattle.ledger.specs.Closings.{others, moved_to}
-use Rattle.ledger.proofs.closings.without.Given as goal
-
-abbrev pub invariant-loop-i : goal.invariant-loop-i
-invariant-loop-i l = (l.free ≡ length (others l.customer l.register l.i)) × (l.entries ≡ moved_to l.customer l.register l.i)
