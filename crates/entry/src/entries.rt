@@ -5,7 +5,7 @@ ghost use Rattle.kinds.specs.Kinds.{kind_number};
 ghost use Rattle.entry.specs.Entries.{no_entry, same_key, same_bands, set_of, kept_value, call_of, entry_of};
 
 use kinds::{Kind, bands_of, kind_number, marks_of};
-use quantity::{BandSet, Fen, Tenths, byte};
+use quantity::{BandSet, Fen, Tenths};
 
 // What is kept of a sheet that was billed. The first `length` bytes of `key`, and as many values and marks as the kind has
 // bands, are the entry's; what lies past them never matters, and is entered as zeros. `kind` is the number of a kind. There is
