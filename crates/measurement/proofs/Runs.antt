@@ -24,7 +24,6 @@ use Rattle.measurement.specs.Lists.{taken_at, value_of, limit_of, fault_of, refu
 use Rattle.quantity.specs.Quantities.{nought}
 use Rattle.std.specs.Prelude.{Result, Ok, Err, Option, Some, None}
 use Rattle.laws.proofs.Tests.{clash}
-use Rattle.quantity.specs.declared.quantities.BandSet.{BandSet}
 use Rattle.intake.specs.declared.singles.Taken.{Taken}
 
 -- a mark is at most its bit
@@ -53,8 +52,8 @@ module _ (readings : List Reading) where
       go (no h) = rw (le-ltb j (n + 1) (omega arith), le-ltb j n (omega arith))
 
   -- one more value
-  pub values-more : (n k : ℕ) → n < k → set (values_in readings n k) n (value_of (taken_at readings n)) ≡ values_in readings (n + 1) k
-  values-more n k h = ext_get_or nought (set (values_in readings n k) n v) (values_in readings (n + 1) k) lengths each
+  pub values_more : (n k : ℕ) → n < k → set (values_in readings n k) n (value_of (taken_at readings n)) ≡ values_in readings (n + 1) k
+  values_more n k h = ext_get_or nought (set (values_in readings n k) n v) (values_in readings (n + 1) k) lengths each
     where
       v : Tenths
       v = value_of (taken_at readings n)
@@ -92,9 +91,9 @@ module _ (readings : List Reading) where
 
   -- ---- marks
 
-  pub marks-more : (n : ℕ) → marks_in readings (n + 1) ≡ marks_in readings n + weight_of (limit_of (taken_at readings n)) n
+  pub marks_more : (n : ℕ) → marks_in readings (n + 1) ≡ marks_in readings n + weight_of (limit_of (taken_at readings n)) n
   unfolding marks_in
-  marks-more n = ap (marks_in readings) (add-one n)
+  marks_more n = ap (marks_in readings) (add-one n)
 
   pub marks-bound : (n : ℕ) → marks_in readings n < 2 ^ n
   unfolding marks_in
@@ -103,9 +102,9 @@ module _ (readings : List Reading) where
 
   -- ---- refusals
 
-  pub refusal-more : (n : ℕ) → refusal_in readings (n + 1) ≡ or_else (refusal_in readings n) (fault_of (taken_at readings n))
+  pub refusal_more : (n : ℕ) → refusal_in readings (n + 1) ≡ or_else (refusal_in readings n) (fault_of (taken_at readings n))
   unfolding refusal_in
-  refusal-more n = ap (refusal_in readings) (add-one n)
+  refusal_more n = ap (refusal_in readings) (add-one n)
 
   pub refusal-stays : (n k : ℕ) (r : Refusal) → refusal_in readings n ≡ Some r → refusal_in readings (k + n) ≡ Some r
   unfolding refusal_in
@@ -115,56 +114,45 @@ module _ (readings : List Reading) where
       ap (refusal_in readings) q ∙ ap (λ (o : Option Refusal). or_else o (fault_of (taken_at readings (k + n)))) (refusal-stays n k r e)
 
 -- ---- the loop over the readings: so far none was refused
+module _ (readings : List Reading) where
+  pub refusal_none : refusal_in readings 0 ≡ None
+  unfolding refusal_in
+  refusal_none = refl
 
-pub record Taking (readings : List Reading) (values : List Tenths) (marks i : ℕ) : Type 0 where
-  pub accepted : refusal_in readings i ≡ None
-  pub held : values ≡ values_in readings i 48
-  pub marked : marks ≡ marks_in readings i
+  pub values_none : values_in readings 0 48 ≡ replicate 48 nought
+  unfolding values_in listed
+  values_none = refl
 
-pub taking-none : (readings : List Reading) → Taking readings (replicate 48 nought) 0 0
-unfolding refusal_in marks_in values_in listed
-taking-none readings = record { accepted = refl; held = refl; marked = refl }
+  pub marks_none : marks_in readings 0 ≡ 0
+  unfolding marks_in
+  marks_none = refl
 
--- the marks of 48 readings fit their number
-pub marks-fit : (readings : List Reading) (n : ℕ) → n ≤ 48 → marks_in readings n < 18446744073709551616
-marks-fit readings n h = omega (arith, marks-bound readings n, pow_mono {i = n} {j = 48} h)
+  -- one more is taken
+  module _ (n : ℕ) (x : Taken) (e : Ok x ≡ taken_at readings n) where
+    pub accepted_more : refusal_in readings n ≡ None → refusal_in readings (n + 1) ≡ None
+    accepted_more t = refusal_more readings n ∙ ap (λ (o : Option Refusal). or_else o (fault_of (taken_at readings n))) t ∙ ap fault_of (sym e)
 
-pub taking-fits : (readings : List Reading) (values : List Tenths) (marks i : ℕ) (x : Taken) (w : ℕ) → i < 48
-    → Taking readings values marks i → Ok x ≡ taken_at readings i → w ≡ weight_of x.limit i → marks + w < 18446744073709551616
-taking-fits readings values marks i x w h t e f =
-    omega (arith, t.marked, f, marks-more readings i, marks-fit readings (i + 1) (omega arith), ap (λ (y : Result Taken Refusal). weight_of (limit_of y) i) (sym e))
+    pub held_more : n < 48 → set (values_in readings n 48) n x.value ≡ values_in readings (n + 1) 48
+    held_more h = ap (λ (y : Result Taken Refusal). set (values_in readings n 48) n (value_of y)) e ∙ values_more readings n 48 h
 
--- a reading that is taken
-pub taking-more : (readings : List Reading) (values : List Tenths) (marks i : ℕ) (x : Taken) (w : ℕ) → i < 48
-    → Taking readings values marks i → Ok x ≡ taken_at readings i → w ≡ weight_of x.limit i
-    → Taking readings (set values i x.value) (marks + w) (i + 1)
-taking-more readings values marks i x w h t e f = record {
-  accepted =
-      refusal-more readings i
-      ∙ ap (λ (o : Option Refusal). or_else o (fault_of (taken_at readings i))) t.accepted
-      ∙ ap fault_of (sym e);
-  held =
-      ap (λ (l : List Tenths). set l i x.value) t.held
-      ∙ ap (λ (y : Result Taken Refusal). set (values_in readings i 48) i (value_of y)) e
-      ∙ values-more readings i 48 h;
-  marked = omega (arith, t.marked, f, marks-more readings i, ap (λ (y : Result Taken Refusal). weight_of (limit_of y) i) (sym e));
-}
+    pub marked_more : marks_in readings n + weight_of x.limit n ≡ marks_in readings (n + 1)
+    marked_more = ap (λ (y : Result Taken Refusal). marks_in readings n + weight_of (limit_of y) n) e ∙ sym (marks_more readings n)
 
--- all are taken
-pub taken-all : (readings : List Reading) (values : List Tenths) (marks i n : ℕ) → i ≡ n → Taking readings values marks i
-    → ◌≡◌ {A = Result Readings Refusal} (Ok (record { values = values; marks = marks })) (all_of readings n)
-unfolding all_of
-taken-all readings values marks i n e t = rw (t.held, t.marked, ← e, t.accepted)
+    -- the marks of 48 readings fit their number
+    pub marks_fit : n < 48 → marks_in readings n + weight_of x.limit n < 18446744073709551616
+    marks_fit h = omega (arith, marked_more, marks-bound readings (n + 1), pow_mono {i = n + 1} {j = 48} (omega arith))
 
--- one is refused
-pub refused-at : (readings : List Reading) (count : ℕ) (values : List Tenths) (marks i : ℕ) (r : Refusal) → i < count
-    → Taking readings values marks i → Err r ≡ taken_at readings i → Err r ≡ all_of readings count
-unfolding all_of
-refused-at readings count values marks i r h t e =
-    let q : count - (i + 1) + (i + 1) ≡ count = omega arith in
-    let met : refusal_in readings (i + 1) ≡ Some r =
-    refusal-more readings i ∙ ap (λ (o : Option Refusal). or_else o (fault_of (taken_at readings i))) t.accepted ∙ ap fault_of (sym e) in
-    rw (ap (refusal_in readings) (sym q) ∙ refusal-stays readings (i + 1) (count - (i + 1)) r met)
+  -- one is refused
+  pub refused_at : (count i : ℕ) (r : Refusal) → i < count → refusal_in readings i ≡ None → Err r ≡ taken_at readings i → all_of readings count ≡ Err r
+  unfolding all_of
+  refused_at count i r h t e =
+      let q : count - (i + 1) + (i + 1) ≡ count = omega arith in
+      let met : refusal_in readings (i + 1) ≡ Some r =
+      refusal_more readings i ∙ ap (λ (o : Option Refusal). or_else o (fault_of (taken_at readings i))) t ∙ ap fault_of (sym e) in
+      rw (ap (refusal_in readings) (sym q) ∙ refusal-stays readings (i + 1) (count - (i + 1)) r met)
+
+-- what a turn of the loop takes, and what it starts from
+pub ruleset turns = (refusal_none, values_none, marks_none, accepted_more, held_more, marked_more, marks_fit, refused_at)
 
 -- ---- and back: what was taken is what the definition says of accepted readings, and a refusal is the first
 
@@ -197,19 +185,21 @@ pub list_count : (readings : List Reading) (len bands : ℕ) → (len ≡ bands 
 unfolding list_of
 list_count readings len bands d = rw (ne_eqb len bands d)
 
-pub list-refused : (readings : List Reading) (len bands : ℕ) (r : Refusal) → len ≡ bands → Err r ≡ all_of readings bands → Err r ≡ list_of readings len bands
+pub list_refused : (readings : List Reading) (len bands : ℕ) (r : Refusal) → len ≡ bands → Err r ≡ all_of readings bands → Err r ≡ list_of readings len bands
 unfolding list_of
-list-refused readings len bands r e f = rw (eq-eqb len bands e, all-refused readings bands r (sym f))
+list_refused readings len bands r e f = rw (eq-eqb len bands e, all-refused readings bands r (sym f))
 
 -- the marks of a set fit their number
-pub list-marks : (readings : List Reading) (n : ℕ) (s : Readings) → n ≤ 16 → Ok s ≡ all_of readings n → s.marks < 65536
-list-marks readings n s h e =
+pub list_marks : (readings : List Reading) (n : ℕ) (s : Readings) → n ≤ 16 → Ok s ≡ all_of readings n → s.marks < 65536
+list_marks readings n s h e =
     omega (arith, (all-taken readings n s (sym e)).marks, marks-bound readings n, pow_mono {i = n} {j = 16} h)
 
-pub list-accepted : (readings : List Reading) (len bands : ℕ) (s : Readings) (values : List Tenths) → len ≡ bands → Ok s ≡ all_of readings bands
-    → values ≡ take 16 s.values
-    → ◌≡◌ {A = Result BandSet Refusal} (Ok (record { values = values; marks = s.marks; len = bands })) (list_of readings len bands)
+pub list_accepted : (readings : List Reading) (len bands : ℕ) (s : Readings) → len ≡ bands → Ok s ≡ all_of readings bands
+    → list_of readings len bands ≡ Ok (record { values = take 16 s.values; marks = s.marks; len = bands })
 unfolding list_of
-list-accepted readings len bands s values e f g =
+list_accepted readings len bands s e f =
     let w = all-taken readings bands s (sym f) in
-    rw (eq-eqb len bands e, w.accepted, g, w.values, w.marks, values-head readings bands 48 16 (omega arith))
+    rw (eq-eqb len bands e, w.accepted, w.values, w.marks, values-head readings bands 48 16 (omega arith))
+
+-- the ways out of a band list
+pub ruleset exits = (list_count, list_refused, list_marks, list_accepted)

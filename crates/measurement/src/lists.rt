@@ -21,6 +21,7 @@ fn weight(limit: bool, i: usize) -> u64
 }
 
 // The first `count` readings, or the refusal of the first that is refused.
+#[tactic(auto, using(crate::proofs::Runs::turns), unfolding(crate::specs::Lists::all_of))]
 pub fn take_all(readings: [Reading; 48], count: usize) -> Result<Readings, Refusal>
     requires { count ≤ 48 }
     ensures { result ≡ all_of readings count }
@@ -45,6 +46,7 @@ fn head(values: [Tenths; 48]) -> [Tenths; 16]
 }
 
 // The readings of a band list, `len` of them stated, for a kind of `bands` bands.
+#[tactic(auto, using(crate::proofs::Runs::exits))]
 pub fn take_list(readings: [Reading; 48], len: usize, bands: usize) -> Result<BandSet, Refusal>
     requires { bands ≤ 16 }
     ensures { result ≡ list_of readings len bands }
