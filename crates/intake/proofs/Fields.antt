@@ -159,3 +159,6 @@ module _ (scale b : ℕ) where
   unfolding of_bits
   bits_middle r h g l =
       field-middle scale (leb 2147483648 b) (b % 2147483648 / 8388608) (b % 8388608) r (omega arith) h g l
+
+-- the four sizes of the exponent's field
+pub ruleset field_laws = (bits_not_finite, bits_far, bits_tiny, bits_middle)

@@ -48,3 +48,6 @@ minus_fits m h = subst (SFits w32) (sym (negated m h)) (fits-made (omega (arith,
 
 pub minus_sign : (m n p : ℕ) → m < 2147483648 → m ≡ size_of true n (2 ^ p) → to_z w32 (of_z w32 (pos 0 -ℤ to_z w32 m)) ≡ nearest_to true n (2 ^ p)
 minus_sign m n p h e = to_z-of_z (minus_fits m h) ∙ negated m h ∙ ap (λ (x : ℕ). neg_ℤ (pos x)) e ∙ sized true n (2 ^ p) (pow_pos p)
+
+-- a size with its sign
+pub ruleset sign_laws = (size_fits, plus_sign, minus_fits, minus_sign)

@@ -27,7 +27,7 @@ fn size(negative: bool, scale: u64, digits: u64, places: u64) -> u64
 }
 
 // The nearest whole number of units of digits / 2 ^ places.
-#[tactic(auto, using(crate::proofs::Shifts::size_fits, crate::proofs::Shifts::plus_sign, crate::proofs::Shifts::minus_fits, crate::proofs::Shifts::minus_sign))]
+#[tactic(auto, using(crate::proofs::Shifts::sign_laws))]
 fn units(negative: bool, scale: u64, digits: u64, places: u64) -> i32
     requires scale_bound { (scale ≤ 100) × (digits < 16777216) }
     requires places_bound { (16 ≤ places) × (places ≤ 31) }
@@ -39,7 +39,7 @@ fn units(negative: bool, scale: u64, digits: u64, places: u64) -> i32
 
 // The same of a bit pattern: a sign, a field for the exponent, 23 digits. From field 135 on the float is 256 or more in size;
 // up to field 118 it is below 1 / 200, and rounds to 0.
-#[tactic(auto, using(crate::proofs::Fields::bits_not_finite, crate::proofs::Fields::bits_far, crate::proofs::Fields::bits_tiny, crate::proofs::Fields::bits_middle))]
+#[tactic(auto, using(crate::proofs::Fields::field_laws))]
 fn round_bits(bits: u32, scale: u64) -> Whole
     requires { scale ≤ 100 }
     ensures { result ≡ whole_of scale (of_bits binary32 bits) }
