@@ -1,57 +1,28 @@
 -- Bytes that are moved: to the front of the buffer, behind those that wait, and past those that were used. Assumes nothing.
 use mathlib.Core.Path.{◌≡◌, refl, sym, ◌∙◌, ap}
-use mathlib.Core.Bool.{true, false}
 use mathlib.Core.List.{List, ◌++◌}
-use Prim.Native.Nat.{ℕ, suc, ◌+◌, ◌-◌, ◌≤◌, ◌<◌}
+use Prim.Native.Nat.{ℕ, ◌+◌, ◌-◌, ◌≤◌}
 use native.Mathlib.Omega.{arith}
 use borrow.Rule.Slice.PartMut.{put_mid, post_of}
 use lib.Dec.{eqb}
-use lib.ListN.{length, take, drop, get_or, set, length-drop, take-append-drop}
-use lib.Seq.{length-take-le, take-suc, drop-cons, append_snoc, get_or-append-add, get_or-drop, take-take, drop-drop, take-add, take-append-le, set_at, take_at, drop_at}
+use lib.ListN.{length, take, drop, length-drop, take-append-drop}
+use lib.Seq.{length-take-le, take-take, drop-drop, take-add, take-append-le, take_at, drop_at}
+use native.Mathlib.Nat.{zero-add}
+use Rattle.std.specs.List.{copy_within}
 use Rattle.std.proofs.lemmas.List.{drop-take}
 use Rattle.line.specs.declared.blocks.Progress.{Progress}
 use Rattle.line.specs.Blocks.{Block, Answered}
 use Rattle.rate.specs.declared.State.{State}
-use Rattle.rate.specs.Waits.{Waits, waiting, Read}
+use Rattle.rate.specs.Waits.{Waits, waiting, Refilled}
 
 -- ---- the first `n` bytes from `start` on, moved to the front
-abbrev pub moved : ℕ → ℕ → List ℕ → List ℕ
+abbrev moved : ℕ → ℕ → List ℕ → List ℕ
 moved start n buf = take n (drop start buf) ++ drop n buf
 
-pub moved_more : (start to : ℕ) (buf : List ℕ) → to + start < length buf
-    → set (moved start to buf) to (get_or (moved start to buf) (to + start) 0) ≡ moved start (to + 1) buf
-moved_more start to buf h =
-    ap (set (moved start to buf) to) here
-    ∙ ap (λ (l : List ℕ). set (p ++ l) to x) (drop-cons buf to 0 (omega arith))
-    ∙ set_at p (get_or buf to 0) (drop (suc to) buf) x to size
-    ∙ sym (append_snoc p x (drop (suc to) buf))
-    ∙ ap (λ (l : List ℕ). l ++ drop (suc to) buf) (sym (take-suc (drop start buf) to 0 (omega (arith, length-drop start buf))))
-    ∙ ap (λ (k : ℕ). moved start k buf) (next to)
-  where
-    p : List ℕ
-    p = take to (drop start buf)
+moved_is : (start end : ℕ) (buf : List ℕ) → copy_within buf start end 0 ≡ moved start (end - start) buf
+moved_is start end buf = simp zero-add
 
-    x : ℕ
-    x = get_or (drop start buf) to 0
-
-    size : length p ≡ to
-    size = length-take-le to (drop start buf) (omega (arith, length-drop start buf))
-
-    turned : (a b : ℕ) → a + b ≡ b + a
-    turned a b = omega arith
-
-    next : (n : ℕ) → suc n ≡ n + 1
-    next n = omega arith
-
-    here : get_or (moved start to buf) (to + start) 0 ≡ x
-    here =
-        ap (λ (k : ℕ). get_or (moved start to buf) (k + start) 0) (sym size)
-        ∙ get_or-append-add p (drop to buf) start 0
-        ∙ get_or-drop to buf start 0
-        ∙ ap (λ (k : ℕ). get_or buf k 0) (turned to start)
-        ∙ sym (get_or-drop start buf to 0)
-
-pub moved_front : (start n : ℕ) (buf : List ℕ) → start + n ≤ length buf → take n (moved start n buf) ≡ take n (drop start buf)
+moved_front : (start n : ℕ) (buf : List ℕ) → start + n ≤ length buf → take n (moved start n buf) ≡ take n (drop start buf)
 moved_front start n buf h = take_at (take n (drop start buf)) (drop n buf) n (length-take-le n (drop start buf) (omega (arith, length-drop start buf)))
 
 -- ---- a call leaves what it did not use
@@ -89,24 +60,22 @@ module _ (s : State) (buf shifted ys : List ℕ) (n more : ℕ) where
   after = put_mid keep n shifted ys
 
   abbrev refilled : State
-  refilled = record { start = 0; end = keep + more; skipping = s.skipping; last = eqb more 0; on = true; failed = false }
+  refilled = record { start = 0; end = keep + more; skipping = s.skipping; last = eqb more 0 }
 
-  pub read_behind : Waits s (length buf) → shifted ≡ moved s.start keep buf → length shifted ≡ length buf → length after ≡ length buf → keep + more ≤ length buf
-      → Read s buf refilled after
+  pub read_behind : Waits s (length buf) → shifted ≡ copy_within buf s.start s.end 0 → length shifted ≡ length buf → length after ≡ length buf → keep + more ≤ length buf
+      → Refilled s buf refilled after
   read_behind w e shift-size size fits = record {
     waits = sym (take-append-drop keep (waiting refilled after))
         ∙ ap (λ (l : List ℕ). l ++ drop keep (waiting refilled after)) (take-take keep (keep + more - 0) after (omega arith) ∙ front);
     last = ap (λ (k : ℕ). eqb k 0) (sym (length-drop keep (waiting refilled after) ∙ count));
     skipping = refl;
-    on = refl;
-    failed = refl;
     size = size;
   }
     where
       front : take keep after ≡ waiting s buf
       front =
           take_at (take keep shifted) (ys ++ post_of keep n shifted) keep (length-take-le keep shifted (omega (arith, w.order, w.within)))
-          ∙ ap (take keep) e
+          ∙ ap (take keep) (e ∙ moved_is s.start s.end buf)
           ∙ moved_front s.start keep buf (omega (arith, w.order, w.within))
 
       count : length (waiting refilled after) - keep ≡ more

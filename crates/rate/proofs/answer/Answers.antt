@@ -19,8 +19,6 @@ returns c =
         waits = left_over st buf c.requires done.result.used (block_at st buf (length c.args.out.now)).used e.within e.used;
         skipping = e.skipping;
         last = refl;
-        on = refl;
-        failed = refl;
       };
       used = e.used;
       text = text-front e;

@@ -1,56 +1,62 @@
 -- `rate::run` meets its contract: a step more for each turn, and at the end all that was read is answered. Assumes nothing.
-use Rattle.std.proofs.Common.{◌≡◌, ℕ, suc, ◌-◌, ◌≤◌, ◌<◌, Bool, true, false, not, refl, subst, sym, arith, length}
-use Rattle.std.specs.Io.KnownBytes.{Appends}
+use Rattle.std.proofs.Common.{◌≡◌, ℕ, List, Result, Ok, Err, subst, arith, length}
+use Rattle.std.specs.Result.{IsErr}
 use Rattle.rate.specs.declared.State.{State}
-use Rattle.rate.specs.Waits.{Waits, block_at, Advanced, Took, most_turns}
-use Rattle.rate.proofs.Streams.{Carried, begins, one_step, finished}
+use Rattle.rate.specs.declared.Unfinished.{Unfinished}
+use Rattle.rate.specs.Waits.{Advanced, Steps, most_turns, Ran}
+use Rattle.rate.specs.Waits.Ran.{ended, broken, used_up}
+use Rattle.rate.proofs.Streams.{begins, one_step, finished}
 use Rattle.rate.proofs.run.Goals as goal
 
--- a turn less to go is a step more
-one_more : (turns : ℕ) → 0 < turns → turns ≤ most_turns → suc (most_turns - turns) ≡ most_turns - (turns - 1)
-one_more turns some most = omega arith
-
-off : (b : Bool) → not b ≡ true → b ≡ false
-off true e = sym e
-off false e = refl
-
-pub loop-turns-init : goal.loop-turns-init
-loop-turns-init g c =
+pub loop-turn-init : goal.loop-turn-init
+loop-turn-init g c =
     let a = c.args in
-    let first = c.started-state.ensures in
     record {
-      waits = subst (λ (s : State). Waits s (length a.buf.now)) (sym first) (record { order = omega arith; within = omega arith });
-      most = omega arith;
-      carried = begins (length a.out.now) a.buf.now (g.R.Read.remaining a.input.now) (g.W.Write.contents a.output.now) first;
+      waits = record { order = omega arith; within = omega arith };
+      carried = begins (length a.out.now) a.buf.now (g.R.Read.remaining a.input.now) (g.W.Write.contents a.output.now);
     }
 
-pub loop-turns-preserved : goal.loop-turns-preserved
-loop-turns-preserved g c =
+pub loop-turn-preserved : goal.loop-turn-preserved
+loop-turn-preserved g c =
     let a = c.args in
-    let l = c.loop-turns in
-    let s = l.invariant in
-    let next = c.advance-state in
-    let given = g.R.Read.remaining a.input.now in
-    let held = g.W.Write.contents a.output.now in
-    let left = g.R.Read.remaining l.input in
-    let now = g.W.Write.contents l.output in
-    let left' = g.R.Read.remaining next.new.input in
-    let now' = g.W.Write.contents next.new.output in
+    let l = c.loop-turn in
+    let n = c.advance.new in
+    let e = c.in_ok-next.ensures in
     record {
-      waits = subst (Waits next.result) l.auto.buf next.ensures.waits;
-      most = omega arith;
-      carried =
-          subst (λ (n : ℕ). Carried (length a.out.now) a.buf.now given held n next.result next.new.buf left' now')
-          (one_more l.turns c.loop-turns-test.true s.most)
-          (one_step (length a.out.now) a.buf.now given held left now left' now' s.carried c.if-state.true
-          (subst (λ (room : ℕ). Advanced l.state l.buf room next.result next.new.buf) l.auto.out next.ensures.advanced)
-          (subst (λ (room : ℕ). next.result.failed ≡ false → Took l.state l.buf room next.result next.new.buf left left') l.auto.out next.ensures.took)
-          (subst (λ (room : ℕ). next.result.failed ≡ false → Appends now now' (block_at l.state l.buf room).text) l.auto.out next.ensures.handed));
+      waits = rw (c.in-Some.is, l.auto.buf) at e.waits;
+      carried = one_step (length a.out.now) a.buf.now (g.R.Read.remaining a.input.now) (g.W.Write.contents a.output.now) (g.R.Read.remaining l.input)
+          (g.W.Write.contents l.output) (g.R.Read.remaining n.input) (g.W.Write.contents n.output) l.invariant.carried (rw l.auto.out at e.handed)
+          (rw (c.in-Some.is, l.auto.out) at e.advanced) (rw (c.in-Some.is, l.auto.out) at e.took);
     }
 
-pub returns-then-not-state-clause-answered : goal.returns-then-not-state-clause-answered
-returns-then-not-state-clause-answered g c =
+-- a step that failed ends the run with a failure, and so does the last turn of all
+failed : {room n : ℕ} {buf before after : List ℕ} {s : State} {why : Unfinished} (r : Result Unit Unfinished) → IsErr r → Steps room buf n s before
+    → Advanced s before room (Err why) after → Ran room buf r after
+failed (Ok u) h steps a = cc
+failed (Err told) h steps a = broken steps a
+
+spent : {room n : ℕ} {buf after : List ℕ} {s : State} (told : Unfinished) → n ≡ most_turns → Steps room buf n s after → Ran room buf (Err told) after
+spent {room} {buf = buf} {after = after} {s = s} told e steps = used_up (subst (λ (k : ℕ). Steps room buf k s after) e steps)
+
+pub returns-in_err-next-clause-ran : goal.returns-in_err-next-clause-ran
+returns-in_err-next-clause-ran g c =
+    let l = c.loop-turn in
+    failed c.from_residual.result c.from_residual.ensures.0 l.invariant.carried.0 (rw l.auto.out at c.in_err-next.ensures.advanced)
+
+pub returns-in_default-clause-ran : goal.returns-in_default-clause-ran
+returns-in_default-clause-ran g c =
+    let l = c.loop-turn in
+    ended l.invariant.carried.0 (rw (c.in_default.is, l.auto.out) at c.in_ok-next.ensures.advanced)
+
+pub returns-in_default-clause-answered : goal.returns-in_default-clause-answered
+returns-in_default-clause-answered g c =
     let a = c.args in
-    let l = c.loop-turns in
-    λ wide size. finished (length a.out.now) a.buf.now (g.R.Read.remaining a.input.now) (g.W.Write.contents a.output.now)
-    (g.R.Read.remaining l.input) (g.W.Write.contents l.output) l.invariant.carried wide size (off l.state.on c.if-not-state.true)
+    let l = c.loop-turn in
+    let n = c.advance.new in
+    let e = c.in_ok-next.ensures in
+    finished (length a.out.now) a.buf.now (g.R.Read.remaining a.input.now) (g.W.Write.contents a.output.now) (g.R.Read.remaining l.input)
+    (g.W.Write.contents l.output) (g.R.Read.remaining n.input) (g.W.Write.contents n.output) l.invariant.carried (rw l.auto.out at e.handed)
+    (rw (c.in_default.is, l.auto.out) at e.advanced) (rw (c.in_default.is, l.auto.out) at e.took)
+
+pub returns-clause-ran : goal.returns-clause-ran
+returns-clause-ran g c = spent _ (omega arith) c.loop-turn.invariant.carried.0
