@@ -10,6 +10,7 @@ use intake::Taken;
 use quantity::{Refusal, Tenths};
 
 // d: how far the total is above the background, in tenths.
+#[tactic(auto, using(crate::proofs::Rules::apart_fits, crate::proofs::Rules::apart_held))]
 fn apart(total: Tenths, background: Tenths) -> i32
     requires ranged { (in_range total.0 ≡ true) × (in_range background.0 ≡ true) }
     ensures { result ≡ above total.0 background.0 }
@@ -18,6 +19,7 @@ fn apart(total: Tenths, background: Tenths) -> i32
 }
 
 // A level with so many tenths taken off.
+#[tactic(auto, using(crate::proofs::Rules::lowered_fits, crate::proofs::Rules::lowered_held))]
 fn lowered(level: Tenths, tenths: u32) -> Tenths
     requires ranged { (in_range level.0 ≡ true) × (tenths < 16) }
     ensures { result.0 ≡ level.0 -ℤ pos tenths }
@@ -26,6 +28,7 @@ fn lowered(level: Tenths, tenths: u32) -> Tenths
 }
 
 // The level at a difference d of at least 6.0 dB: below `clear` c(d) is taken off, from there on there is no change.
+#[tactic(auto, using(crate::proofs::Rules::c_small))]
 fn cleared(total: Tenths, d: i32, clear: i32) -> Taken
     requires total_ranged { in_range total.0 ≡ true }
     requires apart { (60 ≤ P d) × (P clear ≤ 150) }

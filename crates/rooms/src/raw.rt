@@ -20,6 +20,7 @@ pub struct RawBand {
 }
 
 // The difference of levels that are in range, with its mark, or 6.
+#[tactic(auto, using(crate::proofs::Rules::sum_laws))]
 fn differed(
     source: Tenths,
     receiving: Tenths,
