@@ -62,10 +62,6 @@ pub extern "C" fn imbrolt_answer_block(
     let done = desk::answer_block(input, out, is_set(skipping), is_set(last));
     give(
         progress,
-        &[
-            done.used as u64,
-            done.wrote as u64,
-            bit_of(done.skipping),
-        ],
+        &[done.used as u64, done.wrote as u64, bit_of(done.skipping)],
     )
 }

@@ -3,7 +3,7 @@
 // Nothing but moving bytes around the block call: what has been read is answered and written before the next read waits.
 #![tactic(auto)]
 
-ghost use Rattle.std.specs.Prelude.{◌≡◌, ◌-◌, ◌≤◌, length, take, IfOk, IfSome, OnOk};
+ghost use Rattle.std.specs.Prelude.{◌≡◌, ◌≤◌, length, take, IfOk, IfSome, OnOk};
 ghost use Rattle.std.specs.Io.KnownBytes.{Appends};
 ghost use Rattle.line.specs.Answers.{answers_of};
 ghost use Rattle.rate.specs.Waits.{Waits, block_at, Called, Refilled, Taken, Advanced, Took, Ran};
