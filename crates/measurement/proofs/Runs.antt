@@ -6,20 +6,19 @@ use mathlib.Core.List.{List}
 use Prim.Native.Nat.{ℕ, zero, suc, ◌+◌, ◌-◌, ◌^◌, ◌≤◌, ◌<◌}
 use native.Mathlib.Nat.{zero-add, two-pow-succ}
 use native.Mathlib.Numerals.{add-one}
-use native.Mathlib.Decide.{dec_lt, ℕ_discrete}
 use native.Mathlib.Omega.{arith}
-use borrow.Author.Tests.{lt-ltb, le-ltb, eq-eqb, ne_eqb}
-use lib.ListN.{length, get_or, set, take, replicate, length-set, length-take}
-use lib.Seq.{get_or-set_same, get_or-set_other, get_or-take, ext_get_or}
+use borrow.Author.Tests.{eq-eqb, ne_eqb}
+use lib.ListN.{length, get_or, set, take, replicate, length-take}
+use lib.Seq.{get_or-take, ext_get_or}
 use lib.Pow.{pow_mono}
 use Rattle.laws.specs.Lists.{listed}
-use Rattle.laws.proofs.Lists.{length-listed, listed_at}
 use Rattle.quantity.specs.declared.quantities.Tenths.{Tenths}
 use Rattle.quantity.specs.declared.quantities.Reading.{Reading}
 use Rattle.quantity.specs.declared.refusals.Refusal.{Refusal}
 use Rattle.quantity.specs.declared.refusals.Refusal.TheVariants.{BandCount}
 use Rattle.quantity.specs.Refusals.{or_else}
 use Rattle.measurement.specs.declared.lists.Readings.{Readings}
+use Rattle.measurement.proofs.Filling.{filled_length, filled_at, filled_more}
 use Rattle.measurement.specs.Lists.{taken_at, value_of, limit_of, fault_of, refusal_in, weight_of, marks_in, value_in, values_in, all_by, all_of, list_of}
 use Rattle.quantity.specs.Quantities.{nought}
 use Rattle.std.specs.Prelude.{Result, Ok, Err, Option, Some, None}
@@ -32,50 +31,22 @@ weight-most true n = omega arith
 weight-most false n = omega arith
 
 module _ (readings : List Reading) where
-  pub length-values : (n k : ℕ) → length (values_in readings n k) ≡ k
-  unfolding values_in
-  length-values n k = length-listed nought (value_in readings n) k 0
+  value : ℕ → Tenths
+  value i = value_of (taken_at readings i)
+
+  length-values : (n k : ℕ) → length (values_in readings n k) ≡ k
+  unfolding values_in value
+  length-values n k = filled_length value n k
 
   -- value j of the first n readings
   pub value-at : (n k j : ℕ) → j < k → get_or (values_in readings n k) j nought ≡ value_in readings n j
-  unfolding values_in
-  value-at n k j h = listed_at nought (value_in readings n) k j h
-
-  value-here : (n : ℕ) → value_in readings (n + 1) n ≡ value_of (taken_at readings n)
-  value-here n = rw (lt-ltb n (n + 1) (omega arith))
-
-  value-other : (n j : ℕ) → (j ≡ n → ⊥) → value_in readings (n + 1) j ≡ value_in readings n j
-  value-other n j d = go (dec_lt j n)
-    where
-      go : Dec (j < n) → value_in readings (n + 1) j ≡ value_in readings n j
-      go (yes h) = rw (lt-ltb j (n + 1) (omega arith), lt-ltb j n h)
-      go (no h) = rw (le-ltb j (n + 1) (omega arith), le-ltb j n (omega arith))
+  unfolding values_in value
+  value-at n k j h = filled_at value n k j h
 
   -- one more value
-  pub values_more : (n k : ℕ) → n < k → set (values_in readings n k) n (value_of (taken_at readings n)) ≡ values_in readings (n + 1) k
-  values_more n k h = ext_get_or nought (set (values_in readings n k) n v) (values_in readings (n + 1) k) lengths each
-    where
-      v : Tenths
-      v = value_of (taken_at readings n)
-
-      lengths : length (set (values_in readings n k) n v) ≡ length (values_in readings (n + 1) k)
-      lengths = length-set (values_in readings n k) n v ∙ length-values n k ∙ sym (length-values (n + 1) k)
-
-      at : (j : ℕ) → j < k → Dec (j ≡ n) → get_or (set (values_in readings n k) n v) j nought ≡ get_or (values_in readings (n + 1) k) j nought
-      at j g (yes e) =
-          ap (λ (i : ℕ). get_or (set (values_in readings n k) n v) i nought) e
-          ∙ get_or-set_same (values_in readings n k) n v nought (omega (arith, length-values n k))
-          ∙ sym (value-here n)
-          ∙ sym (value-at (n + 1) k n h)
-          ∙ ap (λ (i : ℕ). get_or (values_in readings (n + 1) k) i nought) (sym e)
-      at j g (no d) =
-          get_or-set_other (values_in readings n k) n j v nought d
-          ∙ value-at n k j g
-          ∙ sym (value-other n j d)
-          ∙ sym (value-at (n + 1) k j g)
-
-      each : (j : ℕ) → j < length (set (values_in readings n k) n v) → get_or (set (values_in readings n k) n v) j nought ≡ get_or (values_in readings (n + 1) k) j nought
-      each j g = at j (omega (arith, length-set (values_in readings n k) n v, length-values n k)) (ℕ_discrete j n)
+  values_more : (n k : ℕ) → n < k → set (values_in readings n k) n (value_of (taken_at readings n)) ≡ values_in readings (n + 1) k
+  unfolding values_in value
+  values_more n k h = filled_more value n k h
 
   -- the lowest of them
   pub values-head : (n k m : ℕ) → m ≤ k → take m (values_in readings n k) ≡ values_in readings n m
