@@ -1,6 +1,5 @@
 -- Laws of means.
 pub mod Averages
-pub mod Filling
 pub mod Marks
 pub mod Thirds
 pub mod Meaning

@@ -30,13 +30,13 @@ digit x j m true e = eq-eqb x 1 (cancel x 1 j (omega arith))
 digit x j m false e = let z : x ≡ 0 = cancel x 0 j (omega arith) in ne_eqb x 1 (λ o. lt_irrefl 0 (omega arith))
 
 module _ (f : ℕ → Bool) where
-  pub marks-none : 0 ≡ marks_to f 0
+  pub marks_none : marks_to f 0 ≡ 0
   unfolding marks_to
-  marks-none = refl
+  marks_none = refl
 
-  pub marks-more : (n : ℕ) → marks_to f (n + 1) ≡ marks_to f n + weight_of (f n) n
+  pub marks_more : (n : ℕ) → marks_to f (n + 1) ≡ marks_to f n + weight_of (f n) n
   unfolding marks_to
-  marks-more n = ap (marks_to f) (add-one n)
+  marks_more n = ap (marks_to f) (add-one n)
 
   pub marks-below : (n : ℕ) → marks_to f n < 2 ^ n
   unfolding marks_to
@@ -44,9 +44,9 @@ module _ (f : ℕ → Bool) where
   marks-below (suc n) = omega (arith, marks-below n, weight-most (f n) n, two-pow-succ n)
 
   -- one more mark still fits 16 bits
-  pub marks-fit : (n m w : ℕ) → n < 16 → m ≡ marks_to f n → w ≡ weight_of (f n) n → m + w < 65536
-  marks-fit n m w h d e =
-      omega (arith, marks-more n, marks-below (n + 1), pow_mono {i = n + 1} {j = 16} (omega arith))
+  pub marks_fit : (n m w : ℕ) → n < 16 → m ≡ marks_to f n → w ≡ weight_of (f n) n → m + w < 65536
+  marks_fit n m w h d e =
+      omega (arith, marks_more n, marks-below (n + 1), pow_mono {i = n + 1} {j = 16} (omega arith))
 
   -- the lower marks are the remainder
   lower : (n j : ℕ) → j ≤ n → marks_to f n % 2 ^ j ≡ marks_to f j
@@ -65,6 +65,6 @@ module _ (f : ℕ → Bool) where
   pub marks-bit : (n j : ℕ) → j < n → bit (marks_to f n) j ≡ f j
   marks-bit n j h =
       digit (marks_to f n / 2 ^ j % 2) j (marks_to f j) (f j)
-      (sym (lower n (1 + j) (omega arith) ∙ ap (marks_to f) (add_comm 1 j) ∙ marks-more j)
+      (sym (lower n (1 + j) (omega arith) ∙ ap (marks_to f) (add_comm 1 j) ∙ marks_more j)
       ∙ mod-pow-add (marks_to f n) 1 j
       ∙ ap (λ (x : ℕ). marks_to f n / 2 ^ j % 2 * 2 ^ j + x) (lower n j (omega arith)))

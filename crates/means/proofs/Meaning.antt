@@ -25,7 +25,7 @@ use Rattle.rating.proofs.RatedLaws.{in_order}
 use Rattle.means.specs.Sets.{placed, mean_at, mark_at, means_of, octaves_of, specimens_of}
 use Rattle.means.proofs.Averages.{mean-range}
 use Rattle.means.proofs.Marks.{marks-bit}
-use Rattle.means.proofs.Thirds.{taken-values}
+use Rattle.means.proofs.Thirds.{taken_values}
 use Rattle.std.specs.Prelude.{Ok, None}
 
 -- ---- sets of means
@@ -87,4 +87,4 @@ module _ (readings : List Reading) (acc : refusal_in readings 48 ≡ None) where
   pub specimens-accepted : (t : BandSet) → Ok t ≡ specimens_of readings 48 → accepted t 16 ≡ true
   specimens-accepted t e =
       let m : t ≡ means = cc specimens-are in
-      rw m (means-accepted (placed all.values) all.marks 16 1 16 (omega arith) 48 (λ j h. omega arith) (taken-values readings all taken))
+      rw m (means-accepted (placed all.values) all.marks 16 1 16 (omega arith) 48 (λ j h. omega arith) (taken_values readings all taken))

@@ -50,6 +50,7 @@ fn weight(limit: bool, j: usize) -> u16
 }
 
 // The means of three values each, `count` of them: mean j is of the values at j * step, and one and two strides further.
+#[tactic(auto, using(crate::proofs::Thirds::turns))]
 fn means(values: &[Tenths], marks: u64, count: usize, step: usize, stride: usize) -> BandSet
     requires count_bound { (count ≤ 16) × (length values.now ≤ 48) }
     requires in_bounds { (j : ℕ) → j < count → j * step + 2 * stride < length values.now }
@@ -78,7 +79,7 @@ fn means(values: &[Tenths], marks: u64, count: usize, step: usize, stride: usize
 }
 
 // Five octaves from a set of sixteen thirds: 1 where it has another length, then 4 where a band is out of range.
-#[tactic(auto, unfolding(crate::specs::Sets::octaves_of))]
+#[tactic(auto, using(crate::proofs::Thirds::bands_in), unfolding(crate::specs::Sets::octaves_of))]
 pub fn octaves(set: BandSet) -> Result<BandSet, Refusal>
     ensures { result ≡ octaves_of set }
 {
@@ -94,7 +95,7 @@ pub fn octaves(set: BandSet) -> Result<BandSet, Refusal>
 
 // The sixteen means of three specimens, given as 48 readings one specimen after the other: 12 where `len` is another number,
 // then the refusal of the first reading that is refused.
-#[tactic(auto, unfolding(crate::specs::Sets::specimens_of))]
+#[tactic(auto, using(crate::proofs::Thirds::taken_values), unfolding(crate::specs::Sets::specimens_of))]
 pub fn specimens(readings: [Reading; 48], len: usize) -> Result<BandSet, Refusal>
     ensures { result ≡ specimens_of readings len }
 {
