@@ -4,8 +4,7 @@
 
 ghost use Rattle.std.specs.Prelude.{◌≡◌, length};
 ghost use Rattle.door.specs.Answers.{returned, held};
-ghost use Rattle.desk_c.specs.Lines.{line_answer, line_held, is_set, block_answer, block_held};
-ghost use Rattle.laws.specs.Extremes.{one_if};
+ghost use Rattle.desk_c.specs.Lines.{line_answer, line_held, block_answer, block_held};
 
 use door::give;
 
@@ -30,18 +29,6 @@ pub extern "C" fn imbrolt_answer_line(
     }
 }
 
-fn is_set(number: u32) -> bool
-    ensures { result ≡ is_set number }
-{
-    number != 0
-}
-
-fn bit_of(flag: bool) -> u64
-    ensures { result ≡ one_if flag }
-{
-    u64::from(flag)
-}
-
 // The answers to the whole lines of a part of a run for which `out` has room: bytes used, bytes written, and the flag to hand
 // to the next call.
 #[unsafe(no_mangle)]
@@ -59,9 +46,13 @@ pub extern "C" fn imbrolt_answer_block(
     if progress.len() < 3 {
         return 10;
     }
-    let done = desk::answer_block(input, out, is_set(skipping), is_set(last));
+    let done = desk::answer_block(input, out, skipping != 0, last != 0);
     give(
         progress,
-        &[done.used as u64, done.wrote as u64, bit_of(done.skipping)],
+        &[
+            done.used as u64,
+            done.wrote as u64,
+            u64::from(done.skipping),
+        ],
     )
 }

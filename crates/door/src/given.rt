@@ -1,9 +1,9 @@
 // Putting an answer's numbers into a lent array.
 ghost use Rattle.std.specs.Prelude.{◌≡◌, ◌+◌, ◌≤◌, length, take};
-ghost use Rattle.quantity.specs.Answers.{Answer, flag};
+ghost use Rattle.quantity.specs.Answers.{Answer};
 ghost use Rattle.door.specs.Answers.{returned, held};
 ghost use Rattle.intake.specs.Taken.{taken_answer};
-ghost use Rattle.rating.specs.Sheets.{term_of, term_flag, sheet_numbers, rated_answer};
+ghost use Rattle.rating.specs.Sheets.{sheet_numbers, rated_answer};
 ghost use Rattle.measurement.specs.Lists.{set_numbers, intake_answer};
 ghost use Rattle.products.specs.Covers.{improvement_answer};
 ghost use Rattle.products.specs.Grades.{graded_answer};
@@ -11,7 +11,7 @@ ghost use Rattle.door.specs.Given.{level_answer, Fitting, GradeFits};
 
 use intake::Taken;
 use products::{Cover, Grade};
-use quantity::{BandSet, Decibels, Refusal};
+use quantity::{BandSet, Refusal};
 use rating::Sheet;
 
 // An answer's numbers, from the start of the lent array; 10 where they do not fit.
@@ -26,39 +26,14 @@ pub fn give<T: Copy>(out: &mut [T], answer: &[T]) -> u32
     0
 }
 
-// A flag as a number.
-fn flag_of(b: bool) -> i32
-    ensures { result ≡ flag b }
-{
-    i32::from(b)
-}
-
 // A value and its mark, or the refusal's number.
 pub fn give_taken(out: &mut [i32], taken: Result<Taken, Refusal>) -> u32
     ensures value { result ≡ returned (taken_answer taken) (length out.old) }
     ensures out_after { out.new ≡ held (taken_answer taken) out.old }
 {
     match taken {
-        Ok(taken) => give(out, &[taken.value.0, flag_of(taken.limit)]),
+        Ok(taken) => give(out, &[taken.value.0, i32::from(taken.limit)]),
         Err(refusal) => refusal.number(),
-    }
-}
-
-fn term_value(term: Option<Decibels>) -> i32
-    ensures { result ≡ term_of term }
-{
-    match term {
-        Some(value) => value.0,
-        None => 0,
-    }
-}
-
-fn term_flag(term: Option<Decibels>) -> i32
-    ensures { result ≡ term_flag term }
-{
-    match term {
-        Some(_) => 1,
-        None => 0,
     }
 }
 
@@ -70,10 +45,10 @@ pub fn sheet_numbers(sheet: Sheet) -> [i32; 6]
     [
         sheet.rating.0,
         sheet.first.0,
-        term_value(sheet.second),
-        term_flag(sheet.second),
+        sheet.second.map_or(0, |d| d.0),
+        i32::from(sheet.second.is_some()),
         sheet.shifts as i32,
-        flag_of(sheet.limit),
+        i32::from(sheet.limit),
     ]
 }
 
@@ -134,7 +109,7 @@ pub fn give_cover(out: &mut [i32], cover: Result<Cover, Refusal>) -> u32
     match cover {
         Ok(cover) => give(
             out,
-            &[cover.improvement.0, cover.term.0, flag_of(cover.limit)],
+            &[cover.improvement.0, cover.term.0, i32::from(cover.limit)],
         ),
         Err(refusal) => refusal.number(),
     }
@@ -155,7 +130,7 @@ pub fn give_graded(out: &mut [i32], graded: Result<Grade, Refusal>) -> u32
                 grade.ctr.0,
                 grade.deciding.0,
                 grade.grade as i32,
-                flag_of(grade.limit),
+                i32::from(grade.limit),
             ],
         ),
         Err(refusal) => refusal.number(),
