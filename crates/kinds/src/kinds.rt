@@ -16,12 +16,13 @@ ghost use Rattle.kinds.specs.Numbers.{start_add, rating_at, entries_of, first_of
 
 use curve::Position;
 
+// The four, with their numbers.
 #[derive(Clone, Copy)]
 pub enum Kind {
-    A3,
-    A1,
-    I3,
-    I1,
+    A3 = 0,
+    A1 = 1,
+    I3 = 2,
+    I1 = 3,
 }
 
 // What the shared rating asks of a kind.
@@ -282,12 +283,7 @@ pub fn kind_of(number: u32) -> Option<Kind>
 pub fn kind_number(kind: Kind) -> u8
     ensures { result ≡ kind_number kind }
 {
-    match kind {
-        Kind::A3 => 0,
-        Kind::A1 => 1,
-        Kind::I3 => 2,
-        Kind::I1 => 3,
-    }
+    kind as u8
 }
 
 // The number of bands of a kind.
