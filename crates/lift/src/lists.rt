@@ -42,6 +42,7 @@ fn places(kind: Kind) -> usize
 }
 
 // Lists an accepted set, at a target that is better than its rating.
+#[tactic(auto, using(crate::proofs::Listing::bands_most), unfolding(kinds::specs::Numbers::numbers_of))]
 fn list(kind: Kind, set: BandSet, target: Decibels, out: &mut [u16]) -> usize
     requires set_accepted { accepted set (bands_of kind) ≡ true }
     requires target_in_range { in_targets target.0 ≡ true }
@@ -54,7 +55,7 @@ fn list(kind: Kind, set: BandSet, target: Decibels, out: &mut [u16]) -> usize
     // a better target is stricter than position 0, at which nothing is missing
     let p = position_at(target, n.airborne, n.origin);
     let gains = gains_at(set, n.bands, n.airborne, n.entries, p);
-    fill(&gains.each, n.bands, gains.total - n.limit, out)
+    fill(&gains.each[..n.bands], gains.total - n.limit, out)
 }
 
 // Lists the least sets of one to three bands that reach the target: their count, with the sets from place 0 of `out` on and

@@ -38,12 +38,12 @@ trait Rest {
     ghost more: { ℕ };
 
     // Writes the listed sets of a part and these bands to the front of `out`, in order, and counts them.
-    fn put(part: Part, gains: &[u32; 16], bands: usize, need: u32, out: &mut [u16]) -> usize
+    fn put(part: Part, gains: &[u32], need: u32, out: &mut [u16]) -> usize
         requires part_of { PartOf (at gains.now) part.mask part.sum part.least part.from }
-        requires bounded { Bounded gains.now bands need }
-        requires room { length (joined_by (at gains.now) need bands more part.mask part.from) ≤ length out.old }
-        ensures value { result ≡ length (joined_by (at gains.now) need bands more part.mask part.from) }
-        ensures out_after { out.new ≡ front (joined_by (at gains.now) need bands more part.mask part.from) out.old };
+        requires bounded { Bounded gains.now (length gains.now) need }
+        requires room { length (joined_by (at gains.now) need (length gains.now) more part.mask part.from) ≤ length out.old }
+        ensures value { result ≡ length (joined_by (at gains.now) need (length gains.now) more part.mask part.from) }
+        ensures out_after { out.new ≡ front (joined_by (at gains.now) need (length gains.now) more part.mask part.from) out.old };
 }
 
 struct One {}
@@ -58,14 +58,14 @@ impl Rest for One {
     ghost more = { 1 };
 
     // With the last band the gains make up what is needed; without it, or without the least of the others, they do not.
-    fn put(part: Part, gains: &[u32; 16], bands: usize, need: u32, out: &mut [u16]) -> usize {
+    fn put(part: Part, gains: &[u32], need: u32, out: &mut [u16]) -> usize {
         if need <= part.sum {
             return 0;
         }
         let left = need - part.sum;
         let bound = left + part.least;
         let mut count = 0;
-        for i in part.from..bands {
+        for i in part.from..gains.len() {
             if left <= gains[i] && gains[i] < bound {
                 out[count] = part.mask + (1 << i);
                 count += 1;
@@ -78,22 +78,22 @@ impl Rest for One {
 impl<R: Rest> Rest for Then<R> {
     ghost more = { R.more + 1 };
 
-    fn put(part: Part, gains: &[u32; 16], bands: usize, need: u32, out: &mut [u16]) -> usize {
+    fn put(part: Part, gains: &[u32], need: u32, out: &mut [u16]) -> usize {
         let mut count = 0;
-        for i in part.from..bands {
+        for i in part.from..gains.len() {
             let longer = joined(part, i, gains[i]);
-            count += R::put(longer, gains, bands, need, &mut out[count..]);
+            count += R::put(longer, gains, need, &mut out[count..]);
         }
         count
     }
 }
 
 // Writes the listed sets to the front of `out`, in order, and counts them.
-pub fn fill(gains: &[u32; 16], bands: usize, need: u32, out: &mut [u16]) -> usize
-    requires bounded { Bounded gains.now bands need }
-    requires room { length (by_gains (at gains.now) need bands) ≤ length out.old }
-    ensures value { result ≡ length (by_gains (at gains.now) need bands) }
-    ensures out_after { out.new ≡ front (by_gains (at gains.now) need bands) out.old }
+pub fn fill(gains: &[u32], need: u32, out: &mut [u16]) -> usize
+    requires bounded { Bounded gains.now (length gains.now) need }
+    requires room { length (by_gains (at gains.now) need (length gains.now)) ≤ length out.old }
+    ensures value { result ≡ length (by_gains (at gains.now) need (length gains.now)) }
+    ensures out_after { out.new ≡ front (by_gains (at gains.now) need (length gains.now)) out.old }
 {
     // every gain is less than the least of no band
     let none = Part {
@@ -102,8 +102,8 @@ pub fn fill(gains: &[u32; 16], bands: usize, need: u32, out: &mut [u16]) -> usiz
         least: 10000,
         from: 0,
     };
-    let mut count = One::put(none, gains, bands, need, out);
-    count += Two::put(none, gains, bands, need, &mut out[count..]);
-    count += Three::put(none, gains, bands, need, &mut out[count..]);
+    let mut count = One::put(none, gains, need, out);
+    count += Two::put(none, gains, need, &mut out[count..]);
+    count += Three::put(none, gains, need, &mut out[count..]);
     count
 }

@@ -14,7 +14,7 @@ use Rattle.listing.proofs.parts.fill.Goals.{After-put-count}
 
 pub put-count-requires : goal.put-count-requires
 put-count-requires c =
-    let e = ap length (by-size (at c.args.gains.now) c.args.need c.args.bands) in record {
+    let e = ap length (by-size (at c.args.gains.now) c.args.need (length c.args.gains.now)) in record {
       part_of = no_part _;
       bounded = c.requires.bounded;
       room = omega (arith, c.requires.room, simp length-append at e);
@@ -23,11 +23,11 @@ put-count-requires c =
 -- the pairs are written behind the single bands
 pairs : (c : After-put-count)
     → let a = c.args in
-    let sized : ℕ → List ℕ = λ more. joined_by (at a.gains.now) a.need a.bands more 0 0 in
-    Turn (by_gains (at a.gains.now) a.need a.bands) (sized 2) (sized 3) a.out.now c.put-count.result c.put-count.new.out
+    let sized : ℕ → List ℕ = λ more. joined_by (at a.gains.now) a.need (length a.gains.now) more 0 0 in
+    Turn (by_gains (at a.gains.now) a.need (length a.gains.now)) (sized 2) (sized 3) a.out.now c.put-count.result c.put-count.new.out
 pairs c =
     let a = c.args in
-    let e = by-size (at a.gains.now) a.need a.bands in
+    let e = by-size (at a.gains.now) a.need (length a.gains.now) in
     let r = c.put-count.ensures in
     turn _ _ _ _ _ c.requires.room (record { done = _; parted = sym e; counted = r.value; written = r.out_after }) _ _ refl
 

@@ -16,13 +16,13 @@ use Rattle.listing.proofs.parts.OneRest.put.Goals.{In-loop-i, then-left-gains+th
 
 -- the listed sets with a last band from band i on
 abbrev from : In-loop-i → ℕ → List ℕ
-from c = let a = c.args in joined_by (at a.gains.now) a.need a.bands 1 a.part.mask
+from c = let a = c.args in joined_by (at a.gains.now) a.need (length a.gains.now) 1 a.part.mask
 
 abbrev word : In-loop-i → ℕ
 word c = c.args.part.mask + 2 ^ c.loop-i.i
 
 -- what band i is to the set
-last : (c : In-loop-i) → let a = c.args in Last (at a.gains.now) a.need a.bands a.part.mask a.part.sum a.part.least c.loop-i.i
+last : (c : In-loop-i) → let a = c.args in Last (at a.gains.now) a.need (length a.gains.now) a.part.mask a.part.sum a.part.least c.loop-i.i
 last c = last-band _ _ _ _ _ _ _ c.requires.part_of c.requires.bounded.bands _ c.loop-i.auto.i c.loop-i-test.true c.if-need-part.false
 
 -- the next piece of the list: the set with band i, or nothing
@@ -34,7 +34,7 @@ turned c piece = turn _ _ _ _ _ c.requires.room c.loop-i.invariant piece (from c
 pub returns-then-need-part : goal.returns-then-need-part
 returns-then-need-part c =
     let a = c.args in
-    let e = sym (last_none (at a.gains.now) a.need a.bands _ _ _ _ c.requires.part_of c.requires.bounded.bands c.if-need-part.true) in
+    let e = sym (last_none (at a.gains.now) a.need (length a.gains.now) _ _ _ _ c.requires.part_of c.requires.bounded.bands c.if-need-part.true) in
     record { value = ap length e; out_after = ap (λ (l : List ℕ). front l a.out.now) e }
 
 pub overflow_add-bound : goal.overflow_add-bound

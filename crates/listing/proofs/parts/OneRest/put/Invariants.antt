@@ -2,6 +2,7 @@
 -- written. Assumes nothing.
 use mathlib.Core.List.{List}
 use Prim.Native.Nat.{ℕ}
+use lib.ListN.{length}
 use Rattle.laws.proofs.Fronts.{Writing}
 use Rattle.curve.specs.Levels.{at}
 use Rattle.sets.specs.Gains.{joined_by}
@@ -9,5 +10,5 @@ use Rattle.listing.proofs.parts.OneRest.put.Given as goal
 
 abbrev pub invariant-loop-i : goal.invariant-loop-i
 invariant-loop-i l =
-    let from : ℕ → List ℕ = joined_by (at l.gains) l.need l.bands 1 l.part.mask in
+    let from : ℕ → List ℕ = joined_by (at l.gains) l.need (length l.gains) 1 l.part.mask in
     Writing (from l.part.from) (from l.i) l.initial.out l.count l.out

@@ -3,6 +3,7 @@
 use mathlib.Core.List.{List}
 use Prim.Native.Nat.{ℕ, ◌+◌}
 use native.Mathlib.Omega.{arith}
+use lib.ListN.{length}
 use Rattle.laws.proofs.Fronts.{Turn, turn, ended}
 use Rattle.curve.specs.Levels.{at}
 use Rattle.sets.specs.Gains.{joined_by}
@@ -25,12 +26,12 @@ put-count-requires-clause-part_of g c =
 
 -- the listed sets of the part and its bands to come, from band i on, and those that start with band i
 abbrev from : (g : _) → After-joined-longer g → ℕ → List ℕ
-from g c = let a = c.args in joined_by (at a.gains.now) a.need a.bands (g.R.Rest.more + 1) a.part.mask
+from g c = let a = c.args in joined_by (at a.gains.now) a.need (length a.gains.now) (g.R.Rest.more + 1) a.part.mask
 
 abbrev piece : (g : _) → After-joined-longer g → List ℕ
 piece g c =
     let a = c.args in
-    let r = c.joined-longer.result in joined_by (at a.gains.now) a.need a.bands g.R.Rest.more r.mask r.from
+    let r = c.joined-longer.result in joined_by (at a.gains.now) a.need (length a.gains.now) g.R.Rest.more r.mask r.from
 
 turned : (g : _) (c : After-joined-longer g)
     → let l = c.loop-i in Turn (from g c c.args.part.from) (piece g c) (from g c (l.i + 1)) c.args.out.now l.count l.out

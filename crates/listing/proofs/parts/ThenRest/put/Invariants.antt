@@ -3,6 +3,7 @@
 -- nothing.
 use mathlib.Core.List.{List}
 use Prim.Native.Nat.{ℕ, ◌+◌}
+use lib.ListN.{length}
 use Rattle.laws.proofs.Fronts.{Writing}
 use Rattle.curve.specs.Levels.{at}
 use Rattle.sets.specs.Gains.{joined_by}
@@ -10,5 +11,5 @@ use Rattle.listing.proofs.parts.ThenRest.put.Given as goal
 
 abbrev pub invariant-loop-i : goal.invariant-loop-i
 invariant-loop-i g l =
-    let from : ℕ → List ℕ = joined_by (at l.gains) l.need l.bands (g.R.Rest.more + 1) l.part.mask in
+    let from : ℕ → List ℕ = joined_by (at l.gains) l.need (length l.gains) (g.R.Rest.more + 1) l.part.mask in
     Writing (from l.part.from) (from l.i) l.initial.out l.count l.out
