@@ -9,10 +9,9 @@ use lib.IntN.{ℤ}
 use lib.ListN.{length, get_or, take, drop, set, length-append, take-append-drop}
 use lib.Seq.{take-suc, take_all}
 use borrow.Rule.Slice.PartMut.{put_mid, mid_of}
-use Rattle.rating.specs.declared.sheets.Sheet.{Sheet}
 use Rattle.answer.specs.declared.texts.Field.{Field}
 use Rattle.answer.specs.declared.texts.Field.TheVariants.{Number, Count, Sign, Nothing}
-use Rattle.answer.specs.Texts.{tab, line_feed, digit, decimal, number_text, term_text, set_text, sheet_fields, others, field_texts, texts_of, tabbed}
+use Rattle.answer.specs.Texts.{tab, line_feed, decimal, number_text, others, field_texts, texts_of, tabbed}
 use Rattle.laws.specs.Lists.{front}
 use Rattle.laws.proofs.Fronts.{front-more, tail-home}
 
@@ -51,20 +50,6 @@ sign-tabbed b = refl
 pub nothing-tabbed : tabbed (field_texts Nothing) ≡ []
 unfolding tabbed field_texts
 nothing-tabbed = refl
-
--- the fields of a sheet, and of a refusal
-pub sheet-texts : (s : Sheet) (second : Field) {rating first : ℤ} {m : ℕ} → rating ≡ s.rating.0 → first ≡ s.first.0 → field_texts second ≡ term_text s.second ∷ []
-    → set_text s.limit ≡ m ∷ [] → texts_of (Sign (digit 0) ∷ Number rating ∷ Number first ∷ second ∷ Count s.shifts ∷ Sign m ∷ []) ≡ sheet_fields s
-unfolding texts_of field_texts
-sheet-texts s second {rating} {first} {m} a b e f =
-    ap (λ (z : ℤ). (digit 0 ∷ []) ∷ number_text z ∷ number_text first ∷ (field_texts second ++ (decimal s.shifts ∷ (m ∷ []) ∷ []))) a
-    ∙ ap (λ (z : ℤ). (digit 0 ∷ []) ∷ number_text s.rating.0 ∷ number_text z ∷ (field_texts second ++ (decimal s.shifts ∷ (m ∷ []) ∷ []))) b
-    ∙ ap (λ (ts : List (List ℕ)). (digit 0 ∷ []) ∷ number_text s.rating.0 ∷ number_text s.first.0 ∷ (ts ++ (decimal s.shifts ∷ (m ∷ []) ∷ []))) e
-    ∙ ap (λ (t : List ℕ). (digit 0 ∷ []) ∷ number_text s.rating.0 ∷ number_text s.first.0 ∷ term_text s.second ∷ decimal s.shifts ∷ t ∷ []) (sym f)
-
-pub refused-texts : (n : ℕ) → texts_of (Count n ∷ Nothing ∷ Nothing ∷ Nothing ∷ Nothing ∷ Nothing ∷ []) ≡ decimal n ∷ []
-unfolding texts_of field_texts
-refused-texts n = refl
 
 -- what the first i fields write
 abbrev pub done : List Field → ℕ → List ℕ
@@ -106,3 +91,6 @@ module _ (fs : List Field) (l : List ℕ) (room : length (others (texts_of fs)) 
       ap (λ (r : List ℕ). set r at line_feed) e ∙ front-more (done fs i) l at line_feed k (omega (arith, done-within i))
       ∙ ap (λ (r : List Field). front (tabbed (texts_of r) ++ (line_feed ∷ [])) l) (take_all i fs h)
       ∙ ap (λ (t : List ℕ). front t l) (sym (others-tabbed (texts_of fs)))
+
+-- each kind of field
+pub ruleset tabs = (number-tabbed, count-tabbed, sign-tabbed, nothing-tabbed)

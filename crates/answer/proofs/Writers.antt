@@ -16,6 +16,7 @@ use Rattle.answer.specs.Texts.{tab, hyphen, digit, others, line_text, decimal, n
 use Rattle.laws.specs.Lists.{front}
 use Rattle.answer.proofs.Decimals.{decimal-one, decimal-more}
 use Rattle.laws.proofs.Fronts.{front-more}
+pub use Rattle.laws.proofs.Fronts.{tail-length}
 
 pub stored1 : (l : List ℕ) (x : ℕ) → 1 ≤ length l → set l 0 x ≡ front (x ∷ []) l
 stored1 l x h = front-more [] l 0 x refl h
@@ -143,3 +144,13 @@ number-front z l h e = e ∙ ap (λ (t : List ℕ). front (tab ∷ t) l) (sym (n
 
 pub count-front : (z : ℤ) (l : List ℕ) {xs : List ℕ} → N z ≡ 0 → xs ≡ front (tab ∷ decimal (P z)) l → xs ≡ front (tab ∷ number_text z) l
 count-front z l h e = e ∙ ap (λ (t : List ℕ). front (tab ∷ t) l) (sym (number-above z h))
+
+-- digits written, how long numbers are, and answers
+pub ruleset digits = (one-length, two-length, more-length, digits-one, digits-two, digits_more)
+
+pub ruleset number_lengths = (below_length, above-length)
+
+pub ruleset answer_lengths = (sheet-length, refused-length)
+
+-- what is written behind what was written
+pub ruleset numbers = (number_lengths, stored2, tail-length, count-front)

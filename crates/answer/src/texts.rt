@@ -36,6 +36,7 @@ fn magnitude(z: i32) -> u32
 }
 
 // How long the text of a number is.
+#[tactic(auto, using(crate::proofs::Writers::number_lengths, laws::proofs::Ints::ints))]
 fn number_len(z: i32) -> usize
     ensures { (result ≡ length (number_text z)) × (result ≤ 11) }
 {
@@ -46,6 +47,7 @@ fn number_len(z: i32) -> usize
 }
 
 // The digits of a number at the front.
+#[tactic(auto, using(crate::proofs::Writers::digits))]
 fn put_decimal(n: u32, out: &mut [u8]) -> usize
     requires { length (decimal n) ≤ length out.old }
     ensures value { result ≡ length (decimal n) }
@@ -76,6 +78,7 @@ fn put_count(n: u32, out: &mut [u8]) -> usize
 }
 
 // A number behind a tab.
+#[tactic(auto, using(crate::proofs::Writers::numbers, laws::proofs::Ints::ints))]
 fn put_number(z: i32, out: &mut [u8]) -> usize
     requires { 1 + length (number_text z) ≤ length out.old }
     ensures value { result ≡ 1 + length (number_text z) }
@@ -136,6 +139,7 @@ enum Field {
 }
 
 // A term; a hyphen where the kind has none.
+#[tactic(auto, using(quantity::proofs::Rim::back), unfolding(crate::specs::Texts::term_text, crate::specs::Texts::field_texts))]
 fn term_field(term: Option<Decibels>) -> Field
     ensures { field_texts result ≡ term_text term ∷ [] }
 {
@@ -152,6 +156,7 @@ fn mark(limit: bool) -> u8
 }
 
 // What follows the key: the fields of a sheet, or the number of a refusal and nothing more.
+#[tactic(auto, using(quantity::proofs::Rim::back), unfolding(crate::specs::Texts::texts_of, crate::specs::Texts::field_texts))]
 fn fields_of(rated: Result<Sheet, Refusal>) -> [Field; 6]
     ensures { (texts_of result ≡ fields_of rated) × (length result ≡ 6) }
 {
@@ -176,6 +181,7 @@ fn fields_of(rated: Result<Sheet, Refusal>) -> [Field; 6]
 }
 
 // A field behind a tab.
+#[tactic(auto, using(quantity::proofs::Rim::back, crate::proofs::Fields::tabs))]
 fn put_field(field: Field, out: &mut [u8]) -> usize
     requires { length (tabbed (field_texts field)) ≤ length out.old }
     ensures value { result ≡ length (tabbed (field_texts field)) }
@@ -207,6 +213,7 @@ pub fn put_rated(rated: Result<Sheet, Refusal>, out: &mut [u8])
 }
 
 // How long what follows the key is. Summed from the sheet: a loop over the fields is slower.
+#[tactic(auto, using(quantity::proofs::Rim::back), unfolding(crate::specs::Texts::term_text))]
 fn term_len(term: Option<Decibels>) -> usize
     ensures { (result ≡ length (term_text term)) × (result ≤ 11) }
 {
@@ -216,6 +223,7 @@ fn term_len(term: Option<Decibels>) -> usize
     }
 }
 
+#[tactic(auto, using(quantity::proofs::Rim::back, crate::proofs::Writers::answer_lengths))]
 fn sheet_len(sheet: Sheet) -> usize
     ensures { (result ≡ length (others (sheet_fields sheet))) × (result ≤ 64) }
 {
@@ -223,6 +231,7 @@ fn sheet_len(sheet: Sheet) -> usize
     9 + terms + decimal_len(sheet.shifts)
 }
 
+#[tactic(auto, using(crate::proofs::Writers::answer_lengths))]
 pub fn rated_len(rated: Result<Sheet, Refusal>) -> usize
     ensures { (result ≡ length (others (fields_of rated))) × (result ≤ 64) }
 {
@@ -233,6 +242,7 @@ pub fn rated_len(rated: Result<Sheet, Refusal>) -> usize
 }
 
 // The answer to what is no request.
+#[tactic(auto, using(crate::proofs::Writers::stored7))]
 pub fn put_none(out: &mut [u8])
     requires { 7 ≤ length out.old }
     ensures { out.new ≡ front no_request_text out.old }
