@@ -22,15 +22,21 @@ read : (z w : ℤ) → z ≡ w → P w ≤ 100000 → N w ≤ 100000 → bits z 
 read z w e p q = ap bits e ∙ near w p q
 
 -- the difference of two small numbers
-pub small_difference : (x y : ℤ) → (P x ≤ 10000) × (N x ≤ 10000) → (P y ≤ 10000) × (N y ≤ 10000)
-    → SFits w32 (bits x -ℤ bits y) × (bits (bits x -ℤ bits y) ≡ x -ℤ y)
-small_difference x y h k =
-    let e : bits x -ℤ bits y ≡ x -ℤ y = ap₂ ◌-ℤ◌ (near x (omega arith) (omega arith)) (near y (omega arith) (omega arith)) in
-    let m = minus x y in
-    let a = apart (x -ℤ y) in (
-      subst (SFits w32) (sym e) (fits-made (omega (arith, m, a)) (omega (arith, m, a))),
-      read (bits x -ℤ bits y) (x -ℤ y) e (omega (arith, m, a)) (omega (arith, m, a)),
-    )
+module _ (x y : ℤ) (h : (P x ≤ 10000) × (N x ≤ 10000)) (k : (P y ≤ 10000) × (N y ≤ 10000)) where
+  same : bits x -ℤ bits y ≡ x -ℤ y
+  same = ap₂ ◌-ℤ◌ (near x (omega arith) (omega arith)) (near y (omega arith) (omega arith))
+
+  pub difference_fits : SFits w32 (bits x -ℤ bits y)
+  difference_fits =
+      let m = minus x y in
+      let a = apart (x -ℤ y) in
+      subst (SFits w32) (sym same) (fits-made (omega (arith, m, a)) (omega (arith, m, a)))
+
+  pub difference_is : bits (bits x -ℤ bits y) ≡ x -ℤ y
+  difference_is =
+      let m = minus x y in
+      let a = apart (x -ℤ y) in
+      read (bits x -ℤ bits y) (x -ℤ y) same (omega (arith, m, a)) (omega (arith, m, a))
 
 -- the numbers of a cover
 pub rating_is : (r : ℤ) → Small r → bits (pos 78 -ℤ bits r) ≡ pos 78 -ℤ r

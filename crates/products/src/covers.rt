@@ -34,6 +34,7 @@ fn derived(i: usize, improvement: Tenths) -> Tenths
 }
 
 // The reference floor under the cover.
+#[tactic(auto, using(crate::proofs::Improvements::level_laws))]
 fn derived_set(set: BandSet) -> BandSet
     requires { accepted set (bands_of Kind.I3) ≡ true }
     ensures { result ≡ derived_set set }
