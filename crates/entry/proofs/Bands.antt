@@ -21,16 +21,11 @@ use Rattle.quantity.specs.declared.quantities.Tenths.{Tenths}
 use Rattle.laws.proofs.Ranges.{all-at, all_made}
 use Rattle.kinds.specs.declared.kinds.Kind.{Kind}
 use Rattle.kinds.specs.Kinds.{bands_of, kind_of, kind_number}
-use Rattle.curve.proofs.Searched.{count_most}
-use Rattle.kinds.proofs.Facts.{count-of}
 use Rattle.kinds.proofs.Numbered.{kind-of-number}
 use Rattle.entry.specs.declared.entries.Entry.{Entry}
 use Rattle.entry.specs.Entries.{value_of, marks_to, same_value, same_values, same_marks, bands_by, bands_in, same_bands, Call, entry_of}
 
 -- ---- marks and bands
-pub bands_most : (k : Kind) → bands_of k ≤ 16
-bands_most k = count_most (count-of k)
-
 -- how many bands an entry of the kind has
 bands-in : (n : ℕ) (k : Kind) → n ≡ kind_number k → bands_by (kind_of n) ≡ bands_of k
 bands-in n k e = ap (λ (m : ℕ). bands_by (kind_of m)) e ∙ ap bands_by (kind-of-number k)

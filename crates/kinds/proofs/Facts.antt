@@ -12,6 +12,7 @@ use Rattle.laws.specs.Lists.{listed}
 use Rattle.laws.specs.Sums.{sum_to}
 use Rattle.laws.proofs.Table.{both, both_left, both_right, every, at as entry_at}
 use Rattle.curve.specs.Levels.{at, bottom, Entries, Count}
+use Rattle.curve.proofs.Searched.{count_most}
 use Rattle.kinds.specs.declared.kinds.Kind.{Kind}
 use Rattle.kinds.specs.declared.kinds.Kind.TheVariants.{A3, A1, I3, I1}
 use Rattle.kinds.specs.Kinds.{airborne, bands_of, limit_of, reference_of, references_of, C, Ctr, spectra_c, spectra_ctr}
@@ -35,6 +36,9 @@ count-of A3 = inl refl
 count-of A1 = inr refl
 count-of I3 = inl refl
 count-of I1 = inr refl
+
+pub bands_most : (k : Kind) → bands_of k ≤ 16
+bands_most k = count_most (count-of k)
 
 pub entries_fit : (k : Kind) → (i : ℕ) → i < 16 → Entries (airborne k) (at (entries_of k) i)
 unfolding entries_of listed reference_of references_of fit

@@ -240,10 +240,6 @@ module _ (k : Kind) (s : BandSet) (acc : accepted s (bands_of k) ≡ true) (t : 
         (λ m h. listed_by_lem m (each_of (is_mask n) (masks_in_order n) m (all-sets k) h)))
 
 -- the list has room where the kind's places are lent
--- the bands of a kind stand in the places of the gains
-pub bands_most : (k : Kind) → bands_of k ≤ 16
-bands_most k = count_most (count-of k)
-
 places-are : (k : Kind) → length (masks_in_order (bands_of k)) ≡ places_of k
 unfolding masks_in_order choose
 places-are A3 = refl

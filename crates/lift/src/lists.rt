@@ -42,7 +42,7 @@ fn places(kind: Kind) -> usize
 }
 
 // Lists an accepted set, at a target that is better than its rating.
-#[tactic(auto, using(crate::proofs::Listing::bands_most), unfolding(kinds::specs::Numbers::numbers_of))]
+#[tactic(auto, using(kinds::proofs::Facts::bands_most), unfolding(kinds::specs::Numbers::numbers_of))]
 fn list(kind: Kind, set: BandSet, target: Decibels, out: &mut [u16]) -> usize
     requires set_accepted { accepted set (bands_of kind) ≡ true }
     requires target_in_range { in_targets target.0 ≡ true }

@@ -16,6 +16,7 @@ use Rattle.quantity.specs.declared.refusals.Refusal.TheVariants.{BandCount, Band
 use Rattle.quantity.specs.Refusals.{or_else}
 use Rattle.curve.specs.Bands.{accepted}
 use Rattle.laws.proofs.Ranges.{all_made}
+use Rattle.kinds.proofs.Facts.{bands_most}
 use Rattle.kinds.specs.declared.kinds.Kind.{Kind}
 use Rattle.kinds.specs.declared.kinds.Kind.TheVariants.{A3, A1, I3, I1}
 use Rattle.kinds.specs.Kinds.{bands_of}
@@ -35,12 +36,6 @@ use Rattle.request.proofs.Stands.{Stands, fits}
 use Rattle.request.proofs.Wholes.{span-most, KindGood, kind_ok, kind-two, text-length, RequestGood, request-ok}
 use Rattle.std.specs.Prelude.{Result, Err, Option, Some, None, IfSome}
 use Rattle.rating.specs.declared.sheets.Sheet.{Sheet}
-
-sixteen : (kind : Kind) → bands_of kind ≤ 16
-sixteen A3 = omega arith
-sixteen A1 = omega arith
-sixteen I3 = omega arith
-sixteen I1 = omega arith
 
 -- what the code gathered is judged as the bands are
 pub judged-same : (kind : Kind) (bands : List Band) (r : Gathered) → Holds bands r → judged_in kind r ≡ judged kind bands
@@ -66,7 +61,7 @@ judged-same kind bands r h =
     go true e =
         rw e
         (ap (λ (o : Option Refusal). judged_by o set) h.fault
-        ∙ ap (judged_by (first_fault bands)) (sets (omega (arith, eqb-true (length bands) (bands_of kind) e, sixteen kind))))
+        ∙ ap (judged_by (first_fault bands)) (sets (omega (arith, eqb-true (length bands) (bands_of kind) e, bands_most kind))))
     go false e = rw e
 
 -- bands that give no refusal are in range, so that the set of them is accepted
@@ -94,7 +89,7 @@ unfolding accepted values_of
 clean_of kind broken r g = cc
 clean_of kind (ended bands next) r g = λ f c.
     let h : Holds bands r = g.1 in
-    let few : length bands ≤ 16 = omega (arith, h.count, c, sixteen kind) in
+    let few : length bands ≤ 16 = omega (arith, h.count, c, bands_most kind) in
     all_made (λ i. in_range (get_or r.values i nought).0) (bands_of kind)
     (λ i q. ap (λ (v : List Tenths). in_range (get_or v i nought).0) (h.values few)
     ∙ in-range-at bands (replicate (16 - length bands) nought) i (sym h.fault ∙ f) (omega (arith, h.count, c, q)))

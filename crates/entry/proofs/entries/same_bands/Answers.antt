@@ -1,7 +1,8 @@
 -- `entry::entries::same_bands` meets its contract: the kind, then the marks, then the values. Assumes nothing.
 use mathlib.Core.Path.{refl}
 use native.Mathlib.Omega.{arith}
-use Rattle.entry.proofs.Bands.{bands_most, bands_of_kind, values_eq}
+use Rattle.kinds.proofs.Facts.{bands_most}
+use Rattle.entry.proofs.Bands.{bands_of_kind, values_eq}
 use Rattle.entry.proofs.entries.same_bands.Goals as goal
 use Rattle.entry.proofs.entries.same_bands.Goals.{then-e-f, else-e-f}
 

@@ -15,10 +15,10 @@ use Rattle.quantity.specs.declared.quantities.BandSet.{BandSet}
 use Rattle.curve.specs.Levels.{at, level_by}
 use Rattle.kinds.specs.Kinds.{airborne, bands_of}
 use Rattle.kinds.specs.Numbers.{entries_of, numbers_of, rating_at}
-use Rattle.kinds.proofs.Facts.{entries_fit}
+use Rattle.kinds.proofs.Facts.{bands_most, entries_fit}
 use Rattle.sets.specs.Gains.{by_gains, Gained}
 use Rattle.lift.specs.Reach.{lift_list}
-use Rattle.lift.proofs.Listing.{can-count, position-small, above-limit, need-small, gains-small, list-is, bands_most, list-room}
+use Rattle.lift.proofs.Listing.{can-count, position-small, above-limit, need-small, gains-small, list-is, list-room}
 use Rattle.lift.proofs.lists.list.Goals as goal
 use Rattle.lift.proofs.lists.list.Goals.{After-gains_at-gains}
 
