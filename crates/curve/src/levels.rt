@@ -6,7 +6,7 @@ ghost use Rattle.curve.specs.Bands.{accepted};
 ghost use Rattle.curve.specs.Levels.{level_by, Countable, Entries, plain_at, Ranged, Levels, at, total_at, least_of, energies_of, Settled};
 
 use crate::positions::Position;
-use energy::RatingTables;
+use energy::Energies;
 use quantity::signed::{above, below};
 use quantity::{BandSet, Tenths};
 
@@ -124,9 +124,9 @@ pub fn least(levels: &[u32]) -> u32
     least
 }
 
-// The sum of the energies of the levels, m the least of them.
+// The sum of the energies of the levels, m the least of them, by any tables that tell F.
 #[tactic(auto, unfolding(crate::specs::Levels::energies_of, laws::specs::Sums::sum_to))]
-pub fn energies(levels: &[u32], m: u32, tables: RatingTables) -> u64
+pub fn energies<T: Energies>(levels: &[u32], m: u32, tables: T) -> u64
     requires bands_bound { length levels.now ≤ 16 }
     requires least { (i : ℕ) → i < length levels.now → m ≤ at levels.now i }
     ensures { result ≡ energies_of (at levels.now) (length levels.now) m }

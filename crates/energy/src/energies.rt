@@ -60,20 +60,21 @@ pub fn energy(cells: &[Cell], many: bool, d: u32) -> u32
     cells[d as usize]
 }
 
-impl<'a> RatingTables<'a> {
+// What F is read from: the tables of ratings, those of means, or a caller's own.
+pub trait Energies: Copy {
     // F(d).
-    pub fn energy(self, d: u32) -> u32
-        ensures { result ≡ F d }
-    {
+    fn energy(self, d: u32) -> u32
+        ensures { result ≡ F d };
+}
+
+impl<'a> Energies for RatingTables<'a> {
+    fn energy(self, d: u32) -> u32 {
         energy(self.cells, self.many, d)
     }
 }
 
-impl<'a> MeanTables<'a> {
-    // F(d).
-    pub(crate) fn energy(self, d: u32) -> u32
-        ensures { result ≡ F d }
-    {
+impl<'a> Energies for MeanTables<'a> {
+    fn energy(self, d: u32) -> u32 {
         by_hundreds(self.cells, d)
     }
 }

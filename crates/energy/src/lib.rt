@@ -12,6 +12,6 @@ mod means;
 mod steps;
 
 pub use corrections::{background, reverberation};
-pub use energies::energy;
+pub use energies::{Energies, energy};
 pub use lent::{Cell, MeanTables, RatingTables, mean_tables, tables, tables_of_many};
 pub use steps::level;

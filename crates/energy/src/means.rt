@@ -3,6 +3,7 @@ ghost use Rattle.std.specs.Prelude.{◌≡◌, ◌<◌};
 ghost use Rattle.energy.specs.Means.{v, mean₃};
 ghost use Rattle.energy.specs.Tabled.{Summed₃};
 
+use crate::energies::Energies;
 use crate::lent::MeanTables;
 use crate::steps::missed;
 

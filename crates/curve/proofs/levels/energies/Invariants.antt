@@ -5,4 +5,4 @@ use Rattle.curve.specs.Levels.{at, energies_of}
 use Rattle.curve.proofs.levels.energies.Given as goal
 
 abbrev pub invariant-loop-level : goal.invariant-loop-level
-invariant-loop-level l = (l.sum ≡ energies_of (at l.levels) l.level-index l.m) × (l.sum ≤ 4294967296 * l.level-index)
+invariant-loop-level g l = (l.sum ≡ energies_of (at l.levels) l.level-index l.m) × (l.sum ≤ 4294967296 * l.level-index)
