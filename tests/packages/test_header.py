@@ -48,6 +48,12 @@ class Header(unittest.TestCase):
         exported = run("nm", "--defined-only", "-g", str(NATIVE / "libimbrolt.a")).stdout
         self.assertEqual(set(declared), set(re.findall(r" T (\w+)$", exported, flags=re.M)))
 
+    def test_the_archive_asks_for_what_the_header_says_and_nothing_else(self):
+        words = " ".join(HEADER.read_text().replace("*", " ").split())
+        said = re.search(r"It needs (.*?) of the C library and nothing else", words)[1].split(" and ")
+        needed = run("nm", "-u", str(NATIVE / "libimbrolt.a")).stdout
+        self.assertEqual(set(said), set(re.findall(r" U (\w+)$", needed, flags=re.M)))
+
     def test_every_call(self):
         """With the archive, and with the shared object, which is found by the name that it gives itself."""
         series = (ROOT / "VERSION").read_text().rpartition(".")[0]

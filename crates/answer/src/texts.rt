@@ -113,7 +113,10 @@ fn put_key(s: &[u8], key: usize, len: usize, out: &mut [u8])
     requires out_in_bounds { len ≤ length out.old }
     ensures { out.new ≡ front (take len (drop key s.now)) out.old }
 {
-    out[..len].copy_from_slice(&s[key..key + len]);
+    // byte by byte: a copy of slices would ask memmove of whoever links the library
+    for i in 0..len {
+        out[i] = s[key + i];
+    }
 }
 
 // Kind and key.
