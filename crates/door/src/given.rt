@@ -37,19 +37,22 @@ pub fn give_taken(out: &mut [i32], taken: Result<Taken, Refusal>) -> u32
     }
 }
 
-// The six numbers of a sheet.
-pub fn sheet_numbers(sheet: Sheet) -> [i32; 6]
+// The six numbers of a sheet, with zeros after them.
+pub fn sheet_numbers(sheet: Sheet) -> [i32; 17]
     requires { sheet.shifts ≤ 500 }
-    ensures { result ≡ sheet_numbers sheet }
+    ensures numbers { take 6 result ≡ sheet_numbers sheet }
+    ensures result_len { length result ≡ 17 }
 {
-    [
+    let mut answer = [0i32; 17];
+    answer[..6].copy_from_slice(&[
         sheet.rating.0,
         sheet.first.0,
         sheet.second.map_or(0, |d| d.0),
         i32::from(sheet.second.is_some()),
         sheet.shifts as i32,
         i32::from(sheet.limit),
-    ]
+    ]);
+    answer
 }
 
 // The numbers of a sheet, or the refusal's number.
@@ -59,7 +62,7 @@ pub fn give_rated(out: &mut [i32], rated: Result<Sheet, Refusal>) -> u32
     ensures out_after { out.new ≡ held (rated_answer rated) out.old }
 {
     match rated {
-        Ok(sheet) => give(out, &sheet_numbers(sheet)),
+        Ok(sheet) => give(out, &sheet_numbers(sheet)[..6]),
         Err(refusal) => refusal.number(),
     }
 }

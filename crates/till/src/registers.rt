@@ -41,7 +41,7 @@ fn give_billed(out: &mut [i32], billed: Result<Billed, Refusal>) -> u32
     match billed {
         Ok(billed) => {
             let mut answer = [0i32; 7];
-            answer[..6].copy_from_slice(&sheet_numbers(billed.sheet));
+            answer[..6].copy_from_slice(&sheet_numbers(billed.sheet)[..6]);
             answer[6] = billed.charged.0 as i32;
             give(out, &answer)
         }
