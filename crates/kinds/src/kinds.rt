@@ -85,6 +85,7 @@ pub trait RatingKind {
 }
 
 // Airborne thirds.
+#[derive(Clone, Copy)]
 pub struct A3Kind;
 
 impl RatingKind for A3Kind {
@@ -132,6 +133,7 @@ impl RatingKind for A3Kind {
 }
 
 // Airborne octaves.
+#[derive(Clone, Copy)]
 pub struct A1Kind;
 
 impl RatingKind for A1Kind {
@@ -179,6 +181,7 @@ impl RatingKind for A1Kind {
 }
 
 // Impact thirds.
+#[derive(Clone, Copy)]
 pub struct I3Kind;
 
 impl RatingKind for I3Kind {
@@ -223,6 +226,7 @@ impl RatingKind for I3Kind {
 }
 
 // Impact octaves.
+#[derive(Clone, Copy)]
 pub struct I1Kind;
 
 impl RatingKind for I1Kind {

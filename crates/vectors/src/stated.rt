@@ -57,9 +57,15 @@ fn rate_readings(case: Case, list: List) -> Said {
     }
 }
 
+// No C function returns it: stands for what a call of more places than are lent would say.
+const NO_CALL: u32 = u32::MAX;
+
 // The lift list, in the first places of a list that is looked at no further.
 fn lift_into(case: Case, kind: Kind, set: BandSet, sets: &mut [u16]) -> Said {
-    let places = sets.len().min(natural(case, 5) as usize);
+    let places = natural(case, 5) as usize;
+    if sets.len() < places {
+        return Err(NO_CALL);
+    }
     match desk::lift(kind, set, Decibels(signed(case, 4)), &mut sets[..places]) {
         Ok(n) => Ok(n as i32),
         Err(refusal) => Err(refusal.number()),
