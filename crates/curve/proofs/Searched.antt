@@ -20,7 +20,7 @@ use Rattle.quantity.specs.Quantities.{in_range, band_of}
 use Rattle.quantity.specs.declared.quantities.BandSet.{BandSet}
 use Rattle.curve.specs.Bands.{accepted}
 use Rattle.laws.specs.Tests.{any_to, bit}
-use Rattle.curve.specs.Levels.{at, level_at, Entries, Count, start_at, total_at, min_to, least_of, energies_of, Settled}
+use Rattle.curve.specs.Levels.{at, level_at, Levels, Entries, Count, start_at, total_at, min_to, least_of, energies_of, Settled}
 use Rattle.curve.proofs.Counted.{counted, level-most}
 use Rattle.curve.proofs.Walks.{total-zero, min-below, energies-most, next-over}
 use Rattle.laws.proofs.Ranges.{all-at}
@@ -41,6 +41,9 @@ module _ (sign : Bool) (s : BandSet) (entries : List ℕ) (n : ℕ) (most : n �
   pub level-at-most : (i : ℕ) → i < n → level_at sign s entries i ≤ 4500
   level-at-most i h = level-most sign (band_of s i) (at entries i)
       (counted sign (band_of s i) (at entries i) (band-in s n acc i h) (ent i (omega arith)))
+
+  pub levels-most : (levels : List ℕ) → Levels sign (band_of s) entries n levels → (i : ℕ) → i < n → at levels i ≤ 4500
+  levels-most levels l i h = omega (arith, l.each i h, level-at-most i h)
 
   pub sum-small : sum_to (level_at sign s entries) n ≤ n * 4500
   sum-small = sum_bound (level_at sign s entries) 4500 n level-at-most

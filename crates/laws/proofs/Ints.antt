@@ -128,6 +128,35 @@ le-no (pos a) (negsuc b) e = omega arith
 le-no (negsuc a) (pos b) e = absurd (subst T e tt)
 le-no (negsuc a) (negsuc b) e = omega (arith, leb-false b a e)
 
+-- tests from the parts
+pub le-true : (x y : ℤ) → P x + N y ≤ P y + N x → le_z x y ≡ true
+le-true x y h = go (le_z x y) refl
+  where
+    go : (b : Bool) → le_z x y ≡ b → b ≡ true
+    go true e = refl
+    go false e = absurd (omega (arith, le-no x y e))
+
+pub le-false : (x y : ℤ) → P y + N x < P x + N y → le_z x y ≡ false
+le-false x y h = go (le_z x y) refl
+  where
+    go : (b : Bool) → le_z x y ≡ b → b ≡ false
+    go true e = absurd (omega (arith, le_yes x y e))
+    go false e = refl
+
+pub lt-true : (x y : ℤ) → P x + N y < P y + N x → lt_z x y ≡ true
+lt-true x y h = go (lt_z x y) refl
+  where
+    go : (b : Bool) → lt_z x y ≡ b → b ≡ true
+    go true e = refl
+    go false e = absurd (omega (arith, lt_no x y e))
+
+pub lt-false : (x y : ℤ) → P y + N x ≤ P x + N y → lt_z x y ≡ false
+lt-false x y h = go (lt_z x y) refl
+  where
+    go : (b : Bool) → lt_z x y ≡ b → b ≡ false
+    go true e = absurd (omega (arith, lt_yes x y e))
+    go false e = refl
+
 mag-below : (z : ℤ) → P z < 2147483648 → N z ≤ 2147483648 → mag z < 2147483648
 mag-below (pos n) p q = omega arith
 mag-below (negsuc n) p q = omega arith

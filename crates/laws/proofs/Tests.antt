@@ -46,6 +46,10 @@ pub refuted : (b : Bool) → (b ≡ true → ⊥) → b ≡ false
 refuted true f = absurd (f refl)
 refuted false f = refl
 
+pub sure : (b : Bool) → (b ≡ false → ⊥) → b ≡ true
+sure true f = refl
+sure false f = absurd (f refl)
+
 -- two tests that hold together
 pub both : (a b : Bool) → a && b ≡ true → (a ≡ true) × (b ≡ true)
 both true b e = (refl, e)
@@ -59,3 +63,6 @@ left-fails b e = sym (ap (λ (a : Bool). a && b) e)
 
 pub right-fails : (a : Bool) {b : Bool} → b ≡ false → false ≡ a && b
 right-fails a e = sym (ap (λ (b : Bool). a && b) e ∙ and-false a)
+
+pub left-holds : {a : Bool} (b : Bool) → a ≡ true → b ≡ a && b
+left-holds b e = sym (ap (λ (a : Bool). a && b) e)

@@ -154,6 +154,27 @@ module _ {k : Kind} {s : BandSet} {m : Numbers} (f : Fetched k s m) where
         each = λ i h. get_or-take m.bands levels i 0 (omega arith) ∙ l.each i h;
       }
 
+  -- a term by what is weighed of a set's levels is the set's
+  term-alone : (entries levels : List ℕ) → ((i : ℕ) → i < bands_of k → at levels i ≡ level_at (airborne k) s entries i)
+      → (p : ℕ) {least sum : ℕ} {d : ℤ} → WeighedOf (at levels) (bands_of k) least sum
+      → d ≡ half_even (term_by m.airborne m.origin.0 least (u sum) p)
+      → d ≡ half_even (term_of m.airborne m.origin.0 (level_at (airborne k) s entries) (bands_of k) p)
+  term-alone entries levels each p w d =
+      d
+      ∙ ap₂ (λ (least sum : ℕ). half_even (term_by m.airborne m.origin.0 least (u sum) p)) w.least-is w.sum_is
+      ∙ ap half_even (term-alike m.airborne m.origin.0 (at levels) (level_at (airborne k) s entries) (bands_of k) p (some k s f.acc) each)
+
+  -- so of all places that the levels were counted to
+  pub term-by : {entries levels : List ℕ} → Levels (airborne k) (band_of s) entries (bands_of k) levels
+      → (p : ℕ) {least sum : ℕ} {d : ℤ} → WeighedOf (at levels) m.bands least sum
+      → d ≡ half_even (term_by m.airborne m.origin.0 least (u sum) p)
+      → d ≡ half_even (term_of m.airborne m.origin.0 (level_at (airborne k) s entries) m.bands p)
+  term-by {entries} {levels} l p {least} {sum} {d} w e =
+      let same : m.bands ≡ bands_of k = bands-are k m f.numbers in
+      let v : WeighedOf (at levels) (bands_of k) least sum = subst (λ (n : ℕ). WeighedOf (at levels) n least sum) same w in
+      subst (λ (n : ℕ). d ≡ half_even (term_of m.airborne m.origin.0 (level_at (airborne k) s entries) n p)) (sym same)
+      (term-alone entries levels l.each p v e)
+
   module _ {entries lent : List ℕ} (l : Lent k s entries lent) where
     pub counted-bands : Count (length lent)
     counted-bands = subst Count (sym l.count) (count-of k)
@@ -173,15 +194,11 @@ module _ {k : Kind} {s : BandSet} {m : Numbers} (f : Fetched k s m) where
           omega (arith, w.least-is, least-below (at lent) (length lent) 0 some, low fits 0 some),
         )
 
-    -- a term by what is weighed is the set's
-    pub term-by : (p : ℕ) {least sum : ℕ} {d : ℤ} → WeighedOf (at lent) (length lent) least sum
+    -- and so is a term by what is weighed of them
+    pub term-lent : (p : ℕ) {least sum : ℕ} {d : ℤ} → WeighedOf (at lent) (length lent) least sum
         → d ≡ half_even (term_by m.airborne m.origin.0 least (u sum) p)
         → d ≡ half_even (term_of m.airborne m.origin.0 (level_at (airborne k) s entries) (bands_of k) p)
-    term-by p {least} {sum} w d =
-        let v : WeighedOf (at lent) (bands_of k) least sum = subst (λ (n : ℕ). WeighedOf (at lent) n least sum) l.count w in
-        d
-        ∙ ap₂ (λ (least sum : ℕ). half_even (term_by m.airborne m.origin.0 least (u sum) p)) v.least-is v.sum_is
-        ∙ ap half_even (term-alike m.airborne m.origin.0 (at lent) (level_at (airborne k) s entries) (bands_of k) p (some k s f.acc) l.each)
+    term-lent p {least} {sum} w d = term-alone entries lent l.each p (subst (λ (n : ℕ). WeighedOf (at lent) n least sum) l.count w) d
 
   -- what the search finds by the levels of the reference curve, it finds of the set
   pub sought-by : {lent : List ℕ} {p shifts : ℕ} → Lent k s (entries_of k) lent

@@ -3,7 +3,7 @@
 use mathlib.Core.Path.{ap}
 use Rattle.kinds.proofs.Facts.{entries_fit, first-fit, second-fit}
 use Rattle.rating.specs.Found.{Sought}
-use Rattle.rating.proofs.Sheeted.{Fetched, lent-by, counted-bands, low, weighed, term-by, sought-by, bounds, SecondAt, given, absent, sheet-made}
+use Rattle.rating.proofs.Sheeted.{Fetched, lent-by, counted-bands, low, weighed, term-lent, sought-by, bounds, SecondAt, given, absent, sheet-made}
 use Rattle.rating.proofs.sheets.sheet_of.Goals as goal
 use Rattle.rating.proofs.sheets.sheet_of.Goals.{After-numbers_of-n, After-sought-accepted, After-marked, then-n, else-n}
 use Rattle.std.specs.Prelude.{Ok}
@@ -60,7 +60,7 @@ second : (c : After-marked) → Fetched c.args.kind c.args.set c.numbers_of-n.re
 second c f =
     elim c.if-n.branch [
       | then-n w ↦ rw w.second-is
-          (given w.term_of.result w.if-n.true (term-by f (lent-by f w.by_second-by_second.ensures) _ w.weigh-other.ensures w.term_of.ensures))
+          (given w.term_of.result w.if-n.true (term-lent f (lent-by f w.by_second-by_second.ensures) _ w.weigh-other.ensures w.term_of.ensures))
       | else-n w ↦ rw w.second-is (absent w.if-n.false)
     ]
 
@@ -72,6 +72,6 @@ returns c =
     (sheet-made f c.sought-accepted.result.at.0 _ (sought w.After-sought-accepted f) c.marked.ensures
     (record {
       rating = c.rating_at.ensures;
-      first = term-by f (lent-by f c.by_first-by_first.ensures) _ c.weigh-one.ensures c.term_of-2.ensures;
+      first = term-lent f (lent-by f c.by_first-by_first.ensures) _ c.weigh-one.ensures c.term_of-2.ensures;
       second = second w.After-marked f;
     }))
