@@ -22,7 +22,10 @@ pub fn give<T: Copy>(out: &mut [T], answer: &[T]) -> u32
     if out.len() < answer.len() {
         return Refusal::OutputTooSmall.number();
     }
-    out[..answer.len()].copy_from_slice(answer);
+    // one by one: so a short answer goes to the lent array as it is, where a copy of slices would store it and load it first
+    for i in 0..answer.len() {
+        out[i] = answer[i];
+    }
     0
 }
 
@@ -43,16 +46,25 @@ pub fn sheet_numbers(sheet: Sheet) -> [i32; 17]
     ensures numbers { take 6 result ≡ sheet_numbers sheet }
     ensures result_len { length result ≡ 17 }
 {
-    let mut answer = [0i32; 17];
-    answer[..6].copy_from_slice(&[
+    [
         sheet.rating.0,
         sheet.first.0,
         sheet.second.map_or(0, |d| d.0),
         i32::from(sheet.second.is_some()),
         sheet.shifts as i32,
         i32::from(sheet.limit),
-    ]);
-    answer
+        0,
+        0,
+        0,
+        0,
+        0,
+        0,
+        0,
+        0,
+        0,
+        0,
+        0,
+    ]
 }
 
 // The numbers of a sheet, or the refusal's number.
