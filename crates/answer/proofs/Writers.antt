@@ -3,11 +3,10 @@
 use mathlib.Core.Path.{◌≡◌, refl, sym, ◌∙◌, ap}
 use mathlib.Core.Bool.{Bool, true, false}
 use mathlib.Core.List.{List, [], ◌∷◌, ◌++◌}
-use Prim.Native.Nat.{ℕ, suc, ◌+◌, ◌/◌, ◌%◌, ◌≤◌, ◌<◌}
+use Prim.Native.Nat.{ℕ, ◌+◌, ◌/◌, ◌%◌, ◌≤◌, ◌<◌}
 use native.Mathlib.Omega.{arith}
 use lib.IntN.{ℤ, pos, negsuc}
-use lib.ListN.{length, get_or, take, drop, set, length-append, length-drop}
-use lib.Seq.{length-take-le, take-suc, get_or-drop}
+use lib.ListN.{length, set, length-append}
 use Rattle.laws.specs.Parts.{P, N}
 use Rattle.quantity.specs.Refusals.{number_of}
 use Rattle.quantity.specs.declared.refusals.Refusal.{Refusal}
@@ -96,23 +95,6 @@ number_small PriceRange = omega arith
 number_small OtherBands = omega arith
 number_small RegisterFull = omega arith
 number_small RegisterDamaged = omega arith
-
--- a key, byte by byte
-module _ (s l : List ℕ) (key len : ℕ) (within : key + len ≤ length s) (room : len ≤ length l) where
-  part_length : (i : ℕ) → i ≤ len → length (take i (drop key s)) ≡ i
-  part_length i h = length-take-le i (drop key s) (omega (arith, length-drop key s))
-
-  pub key-turn : (i : ℕ) (out : List ℕ) → i < len → out ≡ front (take i (drop key s)) l
-      → set out i (get_or s (key + i) 0) ≡ front (take (i + 1) (drop key s)) l
-  key-turn i out h e =
-      ap (λ (r : List ℕ). set r i (get_or s (key + i) 0)) e
-      ∙ front-more (take i (drop key s)) l i (get_or s (key + i) 0) (sym (part_length i (omega arith))) (omega arith)
-      ∙ ap (λ (v : ℕ). front (take i (drop key s) ++ (v ∷ [])) l) (sym (get_or-drop key s i 0))
-      ∙ ap (λ (t : List ℕ). front t l) (sym (take-suc (drop key s) i 0 (omega (arith, length-drop key s))))
-      ∙ ap (λ (k : ℕ). front (take k (drop key s)) l) (next i)
-    where
-      next : (i : ℕ) → suc i ≡ i + 1
-      next i = omega arith
 
 pub below_length : (z : ℤ) → 0 < N z → length (number_text z) ≡ 1 + length (decimal (N z))
 below_length z h = ap length (number-below z h) ∙ omega arith

@@ -4,8 +4,9 @@ use mathlib.Core.Path.{◌≡◌, refl, sym, ◌∙◌, ap}
 use mathlib.Core.List.{List, [], ◌∷◌, ◌++◌, append_assoc, append-nil}
 use Prim.Native.Nat.{ℕ, suc, ◌+◌, ◌-◌, ◌≤◌, ◌<◌}
 use native.Mathlib.Omega.{arith}
+use native.Mathlib.Numerals.{add-one}
 use lib.ListN.{length, get_or, take, drop, set, length-append, length-drop, drop_of_length-le}
-use lib.Seq.{drop-cons, set_at, take_at, drop_at, drop-drop, take_all}
+use lib.Seq.{drop-cons, set_at, take_at, drop_at, drop-drop, take_all, take-suc, length-take-le}
 use borrow.Rule.Slice.PartMut.{put_mid, mid_of, post_of}
 use Rattle.laws.specs.Lists.{front}
 
@@ -23,6 +24,16 @@ module _ {A : Type 0} where
 
   pub front_length : (t l : List A) → length t ≤ length l → length (front t l) ≡ length l
   front_length t l h = length-append t (drop (length t) l) ∙ omega (arith, length-drop (length t) l)
+
+  -- of a list that is written from its start on, the next element
+  pub next-written : (t l out : List A) (i : ℕ) (v d : A) → i < length t → i < length l → v ≡ get_or t i d
+      → out ≡ front (take i t) l → set out i v ≡ front (take (i + 1) t) l
+  next-written t l out i v d h k e w =
+      ap (λ (r : List A). set r i v) w
+      ∙ ap (set (front (take i t) l) i) e
+      ∙ front-more (take i t) l i (get_or t i d) (sym (length-take-le i t (omega arith))) k
+      ∙ ap (λ (r : List A). front r l) (sym (take-suc t i d h))
+      ∙ ap (λ (n : ℕ). front (take n t) l) (sym (add-one i))
 
   -- a tail that is lent: it lies within, it is what follows the list, and it comes home with a list at its own front
   module _ (t l : List A) {xs : List A} (a : ℕ) (e : xs ≡ front t l) (f : a ≡ length t) (h : length t ≤ length l) where
